@@ -1,0 +1,264 @@
+-- An accepted slot keeps the rules of the state and the store's length, and changes no byte outside the block that it
+-- writes. It rests on the refusals alone, so it holds from every state that keeps the rules and for any number of cells.
+use mathlib.Core.Path.{_≡_, refl, ap, sym, _∙_, subst}
+use mathlib.Core.Bool.{Bool, true, false}
+use mathlib.Core.List.{List, [], _∷_, _++_}
+use mathlib.Core.Option.{Option, some, none}
+use Prim.Native.Nat.{ℕ, zero, suc, _+_, _-_, _*_, _%_, _<_, _≤_, max}
+use native.Mathlib.Omega.{arith}
+use native.Mathlib.Nat.{mod-lt}
+use lib.Dec.{eqb, ltb, leb}
+use lib.ListN.{length, take, drop, getD, length-append, length-take, length-drop, List·getD-append}
+use lib.Seq.{getD-append-add, getD-take, getD-drop}
+use borrow.Author.Tests.{eqb-true, eqb-false, ltb-true, ltb-false}
+use Rattle.model.specs.Words.{choose}
+use Rattle.model.specs.Sizes.{Sizes, Design, tailSize, headSize, storeBytes, blockPlace}
+use Rattle.model.specs.State.{Byte, Cell, empty, held, owed, State, valuesOf, countOf, tailBytes, headBytes, blocks, ringOf}
+use Rattle.model.specs.Slot.{Call, without, oldestCell, headWithout, afterDelivery, arriving, afterArrival, tailLeft, isOwed}
+use Rattle.model.specs.Slot.{afterRequest, moves, fullest, queueToWrite, nextBlock, placed, tailWritten, storeWritten}
+use Rattle.model.specs.Slot.{refillQueue, queueToRead, blockAt, bytesFor, headRead, afterRead, afterPhase, joined, asked}
+use Rattle.model.specs.Slot.{wrote, wroteStore, refilled, headFull, Answer, accept, refuse, slot}
+use Rattle.model.proofs.Words.{by-test, by-option, none-not-some}
+use Rattle.model.proofs.Bytes.{length-for, length-without-le}
+use Rattle.model.proofs.Fullest.{IsFullest, fullest-some}
+use Rattle.model.proofs.Rings.{place-fits, block-length}
+use Rattle.model.proofs.Rules.{Rules, Keeps, ArrivalTaken, WriteTaken, ReadTaken, rules-delivered, rules-arrived}
+use Rattle.model.proofs.Rules.{rules-asked, rules-wrote, scan-taken, rules-read, rules-phase}
+use Rattle.model.proofs.Accepted.{Judged, Accepted, Outcome, was-refused, was-accepted, outcome}
+
+-- A place of the store that a block is written to: the other bytes stay.
+pub length-placed : (place : ℕ) (values store : List ℕ) → place + length values ≤ length store
+    → length (placed place values store) ≡ length store
+length-placed place values store h =
+    omega (arith, length-append (take place store) (values ++ drop (place + length values) store)
+      , length-append values (drop (place + length values) store), length-take place store
+      , length-drop (place + length values) store)
+
+pub placed-outside : (place : ℕ) (values store : List ℕ) → place + length values ≤ length store
+    → (i : ℕ) → ((place ≤ i) × (i < place + length values) → ⊥)
+    → getD (placed place values store) i 0 ≡ getD store i 0
+placed-outside place values store h i out =
+    by-test (ltb i place)
+    (λ t. List·getD-append front (values ++ back) 0 i (omega (arith, front-long, ltb-true i place t))
+        ∙ getD-take place store i 0 (ltb-true i place t))
+    (λ t. past (i - (place + length values)) (split (ltb-false i place t)))
+  where
+    front : List ℕ
+    front = take place store
+    back : List ℕ
+    back = drop (place + length values) store
+    front-long : length front ≡ place
+    front-long = omega (arith, length-take place store)
+    split : place ≤ i → i ≡ place + length values + (i - (place + length values))
+    split l =
+        by-test (ltb i (place + length values))
+        (λ t. absurd (out (l, ltb-true i (place + length values) t)))
+        (λ t. omega (arith, ltb-false i (place + length values) t))
+    at-past : (k : ℕ) → i ≡ place + length values + k → i ≡ length front + (length values + k)
+    at-past k e = omega (arith, front-long)
+    past : (k : ℕ) → i ≡ place + length values + k → getD (placed place values store) i 0 ≡ getD store i 0
+    past k e =
+        ap (λ (j : ℕ). getD (placed place values store) j 0) (at-past k e)
+        ∙ getD-append-add front (values ++ back) (length values + k) 0
+        ∙ getD-append-add values back k 0
+        ∙ getD-drop (place + length values) store k 0
+        ∙ ap (λ (j : ℕ). getD store j 0) (sym e)
+
+-- Fills along a slot.
+length-head-without : (c : Cell) (head : List Byte) → length (headWithout c head) ≤ length head
+length-head-without empty head = omega arith
+length-head-without (held q v) head = omega arith
+length-head-without (owed q) head = length-without-le 1 q head
+
+length-tail-left : (x : State) (request : Option ℕ) → length (tailLeft x request) ≤ length (x .tail)
+length-tail-left x none = omega arith
+length-tail-left x (some q) =
+    by-test (isOwed x q)
+    (λ t. rw t (omega arith))
+    (λ t. rw t (omega (arith, length-without-le 1 q (x .tail))))
+
+length-tail-written : (x : State) (o : Option ℕ) → length (tailWritten o x) ≤ length (x .tail)
+length-tail-written x none = omega arith
+length-tail-written x (some q) = length-without-le (x .sizes .b) q (x .tail)
+
+length-joined : (x : State) (arrival : Option Byte)
+    → length (x .tail) ≤ tailSize (x .sizes)
+    → ((y : Byte) → arrival ≡ some y → length (x .tail) < tailSize (x .sizes))
+    → length (x .tail ++ arriving arrival) ≤ tailSize (x .sizes)
+length-joined x none h f = omega (arith, length-append (x .tail) [])
+length-joined x (some y) h f = omega (arith, length-append (x .tail) (y ∷ []), f y refl)
+
+-- The queue that step 4 writes has a block's worth of tail bytes; the queue that it reads has a block.
+pub write-taken : (y : State) → WriteTaken y (queueToWrite y)
+write-taken y q e =
+    by-test (moves y)
+    (λ t. let f : IsFullest (y .sizes .b) (tailBytes y) (y .sizes .Q) q
+                = fullest-some (y .sizes .b) (tailBytes y) (y .sizes .Q) q (rw t at e) in
+        (f .below, f .has-block))
+    (λ t. absurd (none-not-some q (rw t at e)))
+
+pub read-scan : (z : State) (q : ℕ) → queueToRead z ≡ some q → refillQueue (headBytes z) (z .cells) ≡ some q
+read-scan z q e =
+    by-test (moves z)
+    (λ t. rw t at e)
+    (λ t. absurd (none-not-some q (rw t at e)))
+
+pub read-taken : (n : ℕ) (z : State) → Rules n z → ReadTaken z (queueToRead z)
+read-taken n z v q e = scan-taken n z v q (read-scan z q e)
+
+-- The write keeps the store's length.
+pub store-length : (n : ℕ) (y : State) (o : Option ℕ) (store : List ℕ) → WriteTaken y o → Rules n y
+    → storeBytes (y .sizes) ≤ length store → length (storeWritten o y store) ≡ length store
+store-length n y none store f v h = refl
+store-length n y (some q) store f v h =
+    length-placed (blockPlace (y .sizes) q (nextBlock y q)) (take (y .sizes .b) (valuesOf q (y .tail))) store
+    (omega (arith, length-take (y .sizes .b) (valuesOf q (y .tail)), f q refl .1
+      , place-fits (y .sizes .Q) (y .sizes .K) (y .sizes .b) q (nextBlock y q) (f q refl .0)
+          (mod-lt (ringOf (y .rings) q .first + ringOf (y .rings) q .count) (omega (arith, v .firsts q (f q refl .0))))))
+
+-- The rules along a slot: after each step, with n cells and one fewer between steps 1 and 3.
+module _ (design : Design) (x : State) (store : List ℕ) (call : Call)
+    (cells-ok : 1 ≤ design .cellCount (x .sizes)) (j : Judged design x store call) where
+  abbrev pub cellsFull : ℕ
+  cellsFull = design .cellCount (x .sizes)
+
+  pub rules-1 : Rules (cellsFull - 1) (afterDelivery x)
+  rules-1 =
+      rules-delivered (cellsFull - 1) x
+      (subst (λ (n : ℕ). Rules n x) (let e : cellsFull ≡ suc (cellsFull - 1) = omega arith in e) (j .kept .within))
+
+  pub rules-2 : Rules (cellsFull - 1) (joined x call)
+  rules-2 = rules-arrived (cellsFull - 1) (afterDelivery x) (call .arrival) (j .arrival-ok) rules-1
+
+  pub rules-3 : Rules cellsFull (asked x call)
+  rules-3 =
+      subst (λ (n : ℕ). Rules n (asked x call)) (let e : suc (cellsFull - 1) ≡ cellsFull = omega arith in e)
+      (rules-asked (cellsFull - 1) (joined x call) (call .request) (j .request-ok) rules-2)
+
+  pub rules-written : Rules cellsFull (wrote x call)
+  rules-written = rules-wrote cellsFull (asked x call) (queueToWrite (asked x call)) (write-taken (asked x call)) rules-3
+
+  pub same-length : length (wroteStore x store call) ≡ length store
+  same-length =
+      store-length cellsFull (asked x call) (queueToWrite (asked x call)) store (write-taken (asked x call)) rules-3
+      (j .store-long)
+
+  pub still-long : storeBytes (x .sizes) ≤ length (wroteStore x store call)
+  still-long = omega (arith, same-length, j .store-long)
+
+  pub rules-refilled : Rules cellsFull (refilled x store call)
+  rules-refilled =
+      rules-read cellsFull (wrote x call) (wroteStore x store call) still-long rules-written
+      (queueToRead (wrote x call)) (read-taken cellsFull (wrote x call) rules-written)
+
+  -- The block that is read has b bytes.
+  pub block-whole : (q : ℕ) → queueToRead (wrote x call) ≡ some q
+      → length (blockAt (x .sizes) (wroteStore x store call) q (ringOf (wrote x call .rings) q .first)) ≡ x .sizes .b
+  block-whole q e =
+      block-length (x .sizes) (wroteStore x store call) q (ringOf (wrote x call .rings) q .first) below
+      (rules-written .firsts q below) still-long
+    where
+      below : q < x .sizes .Q
+      below = read-taken cellsFull (wrote x call) rules-written q e .0
+
+-- The head after the read: as it was, or b more.
+head-read-long : (z : State) (store : List ℕ) (o : Option ℕ)
+    → ((q : ℕ) → o ≡ some q → length (blockAt (z .sizes) store q (ringOf (z .rings) q .first)) ≡ z .sizes .b)
+    → headFull z o ≡ false → length (z .head) ≤ headSize (z .sizes)
+    → length (headRead o z store) ≤ headSize (z .sizes)
+head-read-long z store none f e h = h
+head-read-long z store (some q) f e h =
+    omega (arith, ltb-false (headSize (z .sizes)) (length (z .head) + z .sizes .b) e, length-append (z .head) (bytesFor q block)
+      , length-for q block, f q refl)
+  where
+    block : List ℕ
+    block = blockAt (z .sizes) store q (ringOf (z .rings) q .first)
+
+next-phase : (x : State) → x .phase < x .sizes .b → choose (moves x) 0 (x .phase + 1) < x .sizes .b
+next-phase x h =
+    by-test (moves x)
+    (λ t. rw t (omega arith))
+    (λ t. rw t (omega (arith, eqb-false (x .phase) (x .sizes .b - 1) t)))
+
+-- What an answer keeps of the state and the store that it was handed.
+pub record Kept (design : Design) (x : State) (store : List ℕ) (a : Answer) : Type 0 where
+  pub kept : Keeps design (a .state)
+  pub same-sizes : a .state .sizes ≡ x .sizes
+  pub same-length : length (a .store) ≡ length store
+
+module _ (design : Design) (x : State) (store : List ℕ) (call : Call)
+    (cells-ok : 1 ≤ design .cellCount (x .sizes)) where
+  pub accept-kept : Accepted design x store call → Kept design x store (accept x store call)
+  accept-kept a = record
+    { kept = record
+        { sizes-ok = j .kept .sizes-ok
+        ; phase-ok = next-phase x (j .kept .phase-ok)
+        ; within = rules-phase (design .cellCount (x .sizes)) (refilled x store call)
+            (rules-refilled design x store call cells-ok j)
+        ; tail-fits = omega (arith, tail-low, tail-joined)
+        ; head-fits = head-fits′
+        ; tail-mark = (omega (arith, tail-low), omega (arith, tail-joined, j .kept .tail-mark))
+        ; head-mark = (omega arith, omega (arith, head-fits′, j .kept .head-mark)) }
+    ; same-sizes = refl
+    ; same-length = same-length design x store call cells-ok j }
+    where
+      j : Judged design x store call
+      j = a .judged
+      tail-joined : length (joined x call .tail) ≤ tailSize (x .sizes)
+      tail-joined = length-joined x (call .arrival) (j .kept .tail-fits) (j .tail-room)
+      tail-low : length (wrote x call .tail) ≤ length (joined x call .tail)
+      tail-low =
+          omega (arith, length-tail-written (asked x call) (queueToWrite (asked x call))
+            , length-tail-left (joined x call) (call .request))
+      head-fits′ : length (refilled x store call .head) ≤ headSize (x .sizes)
+      head-fits′ =
+          head-read-long (wrote x call) (wroteStore x store call) (queueToRead (wrote x call))
+          (block-whole design x store call cells-ok j) (a .head-room)
+          (omega (arith, length-head-without (oldestCell (x .cells)) (x .head), j .kept .head-fits))
+
+  -- Accepted or refused, a slot on a state that keeps the rules leaves one that does.
+  pub slot-kept : Keeps design x → Kept design x store (slot design x store call)
+  slot-kept v = go (slot design x store call) (outcome design x store call)
+    where
+      go : (a : Answer) → Outcome design x store call a → Kept design x store a
+      go a (was-refused n e) = record { kept = v; same-sizes = refl; same-length = refl }
+      go a (was-accepted f) = accept-kept f
+
+-- "Bytes beyond, and bytes of blocks not being written, never change."
+pub record StoreElsewhere (x : State) (store : List ℕ) (a : Answer) : Type 0 where
+  pub not-written : a .written ≡ none → a .store ≡ store
+  pub outside :
+      (q : ℕ) → a .written ≡ some q
+      → (i : ℕ) → ((blockPlace (x .sizes) q (nextBlock x q) ≤ i) × (i < blockPlace (x .sizes) q (nextBlock x q) + x .sizes .b) → ⊥)
+      → getD (a .store) i 0 ≡ getD store i 0
+
+module _ (design : Design) (x : State) (store : List ℕ) (call : Call)
+    (cells-ok : 1 ≤ design .cellCount (x .sizes)) where
+  written-outside : (y : State) (o : Option ℕ) → WriteTaken y o → Rules (design .cellCount (x .sizes)) y
+      → storeBytes (y .sizes) ≤ length store
+      → (q : ℕ) → o ≡ some q
+      → (i : ℕ) → ((blockPlace (y .sizes) q (nextBlock y q) ≤ i) × (i < blockPlace (y .sizes) q (nextBlock y q) + y .sizes .b) → ⊥)
+      → getD (storeWritten o y store) i 0 ≡ getD store i 0
+  written-outside y o f v h q e i out =
+      ap (λ (p : Option ℕ). getD (storeWritten p y store) i 0) e
+      ∙ placed-outside place values store
+        (omega (arith, size, h, place-fits (y .sizes .Q) (y .sizes .K) (y .sizes .b) q (nextBlock y q) (f q e .0)
+          (mod-lt (ringOf (y .rings) q .first + ringOf (y .rings) q .count) (omega (arith, v .firsts q (f q e .0))))))
+        i (λ k. out (k .0, omega (arith, size, k .1)))
+    where
+      place : ℕ
+      place = blockPlace (y .sizes) q (nextBlock y q)
+      values : List ℕ
+      values = take (y .sizes .b) (valuesOf q (y .tail))
+      size : length values ≡ y .sizes .b
+      size = omega (arith, length-take (y .sizes .b) (valuesOf q (y .tail)), f q e .1)
+
+  pub store-elsewhere : StoreElsewhere x store (slot design x store call)
+  store-elsewhere = go (slot design x store call) (outcome design x store call)
+    where
+      go : (a : Answer) → Outcome design x store call a → StoreElsewhere x store a
+      go a (was-refused n e) = record { not-written = λ w. refl; outside = λ q w i out. refl }
+      go a (was-accepted f) = record
+        { not-written = λ w. ap (λ (o : Option ℕ). storeWritten o (asked x call) store) w
+        ; outside = written-outside (asked x call) (queueToWrite (asked x call)) (write-taken (asked x call))
+            (rules-3 design x store call cells-ok (f .judged)) (f .judged .store-long) }

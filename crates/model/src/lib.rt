@@ -1,0 +1,1 @@
+// The model of document 01: definitions in specs/, their theory in proofs/.

@@ -1,0 +1,322 @@
+//! The slot model. Each queue has its own rows of tail and head bytes; a
+//! sequence number on every byte remembers the order of the whole cache.
+
+use std::collections::VecDeque;
+
+use crate::raw::RawState;
+use crate::rules::{broken_rules, Cell, Fields, Ring};
+use crate::sizes::Sizes;
+
+/// What a slot hands back. A refused slot has only its number.
+#[derive(Clone, Copy, Debug, PartialEq, Eq)]
+pub struct Answer {
+    pub number: u8,
+    pub delivered: Option<(usize, u8)>,
+    pub written: Option<usize>,
+    pub read: Option<usize>,
+}
+
+impl Answer {
+    pub fn refused(number: u8) -> Answer {
+        Answer { number, delivered: None, written: None, read: None }
+    }
+}
+
+#[derive(Clone, Copy)]
+struct Entry {
+    sequence: u64,
+    byte: u8,
+}
+
+/// The bytes of one cache, one row for each queue, each row oldest first.
+type Rows = Vec<VecDeque<Entry>>;
+
+#[derive(Clone)]
+pub struct Buffer {
+    sizes: Sizes,
+    phase: usize,
+    tail: Rows,
+    head: Rows,
+    cells: VecDeque<Cell>,
+    rings: Vec<Ring>,
+    tail_mark: usize,
+    head_mark: usize,
+    next_sequence: u64,
+}
+
+impl Buffer {
+    /// The making of a state: checks the sizes only.
+    pub fn fresh(sizes: Sizes, cell_count: usize) -> Result<Buffer, u8> {
+        if !sizes.accepted() {
+            return Err(1);
+        }
+        Ok(Buffer {
+            sizes,
+            phase: 0,
+            tail: vec![VecDeque::new(); sizes.q],
+            head: vec![VecDeque::new(); sizes.q],
+            cells: VecDeque::from(vec![Cell::Empty; cell_count]),
+            rings: vec![Ring { first: 0, count: 0 }; sizes.q],
+            tail_mark: 0,
+            head_mark: 0,
+            next_sequence: 0,
+        })
+    }
+
+    /// Sorts a state that keeps the rules into its queues.
+    pub fn from_raw(raw: &RawState) -> Buffer {
+        let mut next_sequence = 0;
+        let mut rows_of = |bytes: &[(usize, u8)]| -> Rows {
+            let mut rows = vec![VecDeque::new(); raw.sizes.q];
+            for &(queue, byte) in bytes {
+                rows[queue].push_back(Entry { sequence: next_sequence, byte });
+                next_sequence += 1;
+            }
+            rows
+        };
+        let tail = rows_of(&raw.tail);
+        let head = rows_of(&raw.head);
+        Buffer {
+            sizes: raw.sizes,
+            phase: raw.phase,
+            tail,
+            head,
+            cells: raw.cells.iter().copied().collect(),
+            rings: raw.rings.clone(),
+            tail_mark: raw.tail_mark,
+            head_mark: raw.head_mark,
+            next_sequence,
+        }
+    }
+
+    pub fn to_raw(&self) -> RawState {
+        RawState {
+            sizes: self.sizes,
+            phase: self.phase,
+            tail: oldest_first(&self.tail),
+            head: oldest_first(&self.head),
+            cells: self.cells.iter().copied().collect(),
+            rings: self.rings.clone(),
+            tail_mark: self.tail_mark,
+            head_mark: self.head_mark,
+        }
+    }
+
+    /// One slot. Refused: neither the state nor the store has changed.
+    pub fn slot(
+        &mut self,
+        expected_cells: usize,
+        arrival: Option<(usize, u8)>,
+        request: Option<usize>,
+        store: &mut [u8],
+    ) -> Answer {
+        if let Some(number) = self.refusal_before(expected_cells, arrival, request, store.len()) {
+            return Answer::refused(number);
+        }
+
+        // The steps work on a copy, so that refusal 10 has nothing to undo.
+        let mut next = self.clone();
+        let delivered = next.deliver_oldest_cell();
+        if let Some((queue, byte)) = arrival {
+            next.join_tail(queue, byte);
+        }
+        next.tail_mark = next.tail_mark.max(fill(&next.tail));
+        next.take_youngest_cell(request);
+        let mut written = None;
+        let mut read = None;
+        if next.phase == next.sizes.b - 1 {
+            let block = next.take_block_to_write();
+            read = next.first_uncovered_queue();
+            if read.is_some() && fill(&next.head) + next.sizes.b > next.sizes.head_size() {
+                return Answer::refused(10);
+            }
+            // Past the last refusal: from here on the store may change.
+            if let Some(block) = block {
+                store[block.start..block.start + block.bytes.len()].copy_from_slice(&block.bytes);
+                written = Some(block.queue);
+            }
+            if let Some(queue) = read {
+                next.read_first_block(queue, store);
+            }
+        }
+        next.head_mark = next.head_mark.max(fill(&next.head));
+        next.phase = (next.phase + 1) % next.sizes.b;
+        *self = next;
+        Answer { number: 0, delivered, written, read }
+    }
+
+    /// Refusals 3, 2 and 4 to 9, on the state as handed in.
+    fn refusal_before(
+        &self,
+        expected_cells: usize,
+        arrival: Option<(usize, u8)>,
+        request: Option<usize>,
+        store_length: usize,
+    ) -> Option<u8> {
+        let sizes = self.sizes;
+        if !self.keeps_rules(expected_cells) {
+            return Some(3);
+        }
+        if store_length < sizes.store_size() {
+            return Some(2);
+        }
+        if let Some((queue, _)) = arrival {
+            if queue >= sizes.q {
+                return Some(4);
+            }
+            if self.tail[queue].len() + sizes.b * self.rings[queue].count == sizes.k * sizes.b {
+                return Some(5);
+            }
+        }
+        if let Some(queue) = request {
+            if queue >= sizes.q {
+                return Some(6);
+            }
+            let arrives_now = matches!(arrival, Some((arriving, _)) if arriving == queue);
+            if !self.would_be_owed(queue) && self.tail[queue].is_empty() && !arrives_now {
+                return Some(7);
+            }
+        }
+        if let Some(&Cell::Owed(queue)) = self.cells.front() {
+            if self.head[queue].is_empty() {
+                return Some(8);
+            }
+        }
+        if arrival.is_some() && fill(&self.tail) == sizes.tail_size() {
+            return Some(9);
+        }
+        None
+    }
+
+    fn keeps_rules(&self, expected_cells: usize) -> bool {
+        let queues_of = |rows: &Rows| -> Vec<usize> {
+            let row_queues = rows.iter().enumerate();
+            row_queues.flat_map(|(queue, row)| row.iter().map(move |_| queue)).collect()
+        };
+        broken_rules(
+            &Fields {
+                sizes: self.sizes,
+                expected_cells,
+                phase: self.phase,
+                rings: &self.rings,
+                tail_mark: self.tail_mark,
+                head_mark: self.head_mark,
+            },
+            queues_of(&self.tail).into_iter(),
+            queues_of(&self.head).into_iter(),
+            self.cells.iter().copied(),
+        )
+        .is_empty()
+    }
+
+    /// Whether a request of this queue takes no tail byte. The answer is the
+    /// same before and after step 1, which lowers both sides or neither.
+    fn would_be_owed(&self, queue: usize) -> bool {
+        let owed = self.cells.iter().filter(|&&cell| cell == Cell::Owed(queue)).count();
+        self.head[queue].len() + self.sizes.b * self.rings[queue].count > owed
+    }
+
+    /// Step 1.
+    fn deliver_oldest_cell(&mut self) -> Option<(usize, u8)> {
+        match self.cells.pop_front()? {
+            Cell::Empty => None,
+            Cell::Held(queue, byte) => Some((queue, byte)),
+            Cell::Owed(queue) => {
+                let entry = self.head[queue].pop_front().expect("refusal 8 was judged");
+                Some((queue, entry.byte))
+            }
+        }
+    }
+
+    /// Step 2.
+    fn join_tail(&mut self, queue: usize, byte: u8) {
+        let sequence = self.take_sequence();
+        self.tail[queue].push_back(Entry { sequence, byte });
+    }
+
+    /// Step 3.
+    fn take_youngest_cell(&mut self, request: Option<usize>) {
+        let cell = match request {
+            None => Cell::Empty,
+            Some(queue) if self.would_be_owed(queue) => Cell::Owed(queue),
+            Some(queue) => {
+                let entry = self.tail[queue].pop_front().expect("refusal 7 was judged");
+                Cell::Held(queue, entry.byte)
+            }
+        };
+        self.cells.push_back(cell);
+    }
+
+    /// Step 4, the write: the fullest tail row of b bytes or more gives its b
+    /// oldest. The caller puts them into the store.
+    fn take_block_to_write(&mut self) -> Option<Block> {
+        let sizes = self.sizes;
+        let mut fullest: Option<usize> = None;
+        for queue in 0..sizes.q {
+            let length = self.tail[queue].len();
+            // Only strictly more wins, so a tie stays with the lowest number.
+            if length >= sizes.b && fullest.map_or(true, |best| length > self.tail[best].len()) {
+                fullest = Some(queue);
+            }
+        }
+        let queue = fullest?;
+        let ring = &mut self.rings[queue];
+        let start = sizes.block_start(queue, (ring.first + ring.count) % sizes.k);
+        ring.count += 1;
+        let bytes = self.tail[queue].drain(..sizes.b).map(|entry| entry.byte).collect();
+        Some(Block { queue, start, bytes })
+    }
+
+    /// Step 4, the choice of the read: the first Owed cell, from the oldest,
+    /// that the head bytes of its queue do not cover.
+    fn first_uncovered_queue(&self) -> Option<usize> {
+        let mut owed_so_far = vec![0; self.sizes.q];
+        for &cell in &self.cells {
+            if let Cell::Owed(queue) = cell {
+                owed_so_far[queue] += 1;
+                if owed_so_far[queue] > self.head[queue].len() {
+                    return Some(queue);
+                }
+            }
+        }
+        None
+    }
+
+    /// Step 4, the read itself.
+    fn read_first_block(&mut self, queue: usize, store: &[u8]) {
+        let sizes = self.sizes;
+        let start = sizes.block_start(queue, self.rings[queue].first);
+        for &byte in &store[start..start + sizes.b] {
+            let sequence = self.take_sequence();
+            self.head[queue].push_back(Entry { sequence, byte });
+        }
+        let ring = &mut self.rings[queue];
+        ring.first = (ring.first + 1) % sizes.k;
+        ring.count -= 1;
+    }
+
+    fn take_sequence(&mut self) -> u64 {
+        self.next_sequence += 1;
+        self.next_sequence - 1
+    }
+}
+
+/// A block on its way from the tail to the store.
+struct Block {
+    queue: usize,
+    start: usize,
+    bytes: Vec<u8>,
+}
+
+fn fill(rows: &Rows) -> usize {
+    rows.iter().map(VecDeque::len).sum()
+}
+
+fn oldest_first(rows: &Rows) -> Vec<(usize, u8)> {
+    let mut all: Vec<(u64, usize, u8)> = Vec::new();
+    for (queue, row) in rows.iter().enumerate() {
+        all.extend(row.iter().map(|entry| (entry.sequence, queue, entry.byte)));
+    }
+    all.sort_unstable();
+    all.into_iter().map(|(_, queue, byte)| (queue, byte)).collect()
+}

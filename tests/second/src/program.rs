@@ -1,0 +1,87 @@
+//! The program `slots`: runs a script and prints its D, R, E and S lines.
+
+use std::io::{self, Write};
+
+use crate::buffer::Buffer;
+use crate::script::{read_script, Command};
+use crate::sizes::{Design, Sizes};
+
+/// The most bytes a script may have.
+pub const SCRIPT_LIMIT: usize = 65_536;
+/// The bytes of the store that the program lends.
+const STORE_LENGTH: usize = 65_536;
+
+/// `input` may be cut after SCRIPT_LIMIT + 1 bytes; more tells nothing new.
+pub fn run_script(input: &[u8], output: &mut impl Write) -> io::Result<()> {
+    if input.len() > SCRIPT_LIMIT {
+        return writeln!(output, "S 15 {SCRIPT_LIMIT}");
+    }
+    let commands = match read_script(input) {
+        Ok(commands) => commands,
+        Err(fault) => return writeln!(output, "S {} {}", fault.number, fault.offset),
+    };
+    let sizes = match commands[0] {
+        Command::Sizes(sizes) => sizes,
+        _ => unreachable!("a script that reads well starts with its sizes"),
+    };
+    match Run::start(sizes) {
+        Ok(run) => run.finish(&commands[1..], output),
+        Err(number) => writeln!(output, "R 0 {number}\nE 0"),
+    }
+}
+
+struct Run {
+    buffer: Buffer,
+    cells: usize,
+    store: Vec<u8>,
+    accepted: u64,
+}
+
+impl Run {
+    fn start(sizes: Sizes) -> Result<Run, u8> {
+        let cells = Design::Full.cells(sizes);
+        let buffer = Buffer::fresh(sizes, cells)?;
+        if STORE_LENGTH < sizes.store_size() {
+            return Err(2);
+        }
+        Ok(Run { buffer, cells, store: vec![0; STORE_LENGTH], accepted: 0 })
+    }
+
+    fn finish(mut self, commands: &[Command], output: &mut impl Write) -> io::Result<()> {
+        for &command in commands {
+            match command {
+                Command::Idle => self.slot(None, None, output)?,
+                Command::Arrival { queue, byte } => self.slot(Some((queue, byte)), None, output)?,
+                Command::Request { queue } => self.slot(None, Some(queue), output)?,
+                Command::Both { arrival_queue, byte, request_queue } => {
+                    self.slot(Some((arrival_queue, byte)), Some(request_queue), output)?
+                }
+                Command::IdleCount(count) => {
+                    for _ in 0..count {
+                        self.slot(None, None, output)?;
+                    }
+                }
+                Command::Sizes(_) | Command::End => {}
+            }
+        }
+        writeln!(output, "E {}", self.accepted)
+    }
+
+    fn slot(
+        &mut self,
+        arrival: Option<(usize, u8)>,
+        request: Option<usize>,
+        output: &mut impl Write,
+    ) -> io::Result<()> {
+        let slot_number = self.accepted;
+        let answer = self.buffer.slot(self.cells, arrival, request, &mut self.store);
+        if answer.number != 0 {
+            return writeln!(output, "R {slot_number} {}", answer.number);
+        }
+        self.accepted += 1;
+        match answer.delivered {
+            Some((queue, byte)) => writeln!(output, "D {slot_number} {queue} {byte}"),
+            None => Ok(()),
+        }
+    }
+}

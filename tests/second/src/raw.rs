@@ -1,0 +1,56 @@
+//! A state as it is handed in: plain lists in the paper's order, any content.
+
+use crate::buffer::{Answer, Buffer};
+use crate::rules::{broken_rules, Cell, Fields, Ring};
+use crate::sizes::Sizes;
+
+#[derive(Clone, Debug, PartialEq, Eq)]
+pub struct RawState {
+    pub sizes: Sizes,
+    pub phase: usize,
+    /// Queue and byte, oldest first; the head likewise.
+    pub tail: Vec<(usize, u8)>,
+    pub head: Vec<(usize, u8)>,
+    /// Oldest first.
+    pub cells: Vec<Cell>,
+    pub rings: Vec<Ring>,
+    pub tail_mark: usize,
+    pub head_mark: usize,
+}
+
+impl RawState {
+    pub fn broken_rules(&self, expected_cells: usize) -> Vec<&'static str> {
+        broken_rules(
+            &Fields {
+                sizes: self.sizes,
+                expected_cells,
+                phase: self.phase,
+                rings: &self.rings,
+                tail_mark: self.tail_mark,
+                head_mark: self.head_mark,
+            },
+            self.tail.iter().map(|&(queue, _)| queue),
+            self.head.iter().map(|&(queue, _)| queue),
+            self.cells.iter().copied(),
+        )
+    }
+
+    /// One slot on a state that may break any rule. Refusal 3 is judged here,
+    /// on the lists, since only a state that keeps the rules can be sorted
+    /// into queues.
+    pub fn slot(
+        &mut self,
+        expected_cells: usize,
+        arrival: Option<(usize, u8)>,
+        request: Option<usize>,
+        store: &mut [u8],
+    ) -> Answer {
+        if !self.broken_rules(expected_cells).is_empty() {
+            return Answer::refused(3);
+        }
+        let mut buffer = Buffer::from_raw(self);
+        let answer = buffer.slot(expected_cells, arrival, request, store);
+        *self = buffer.to_raw();
+        answer
+    }
+}

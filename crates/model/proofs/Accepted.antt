@@ -15,7 +15,7 @@ use Rattle.model.specs.State.{Byte, Cell, State, countOf, tailBytes, blo
 use Rattle.model.specs.Slot.{Call, arriving, isOwed, oldestCell, wrote, queueToRead, arrivalUnknown, arrivalFull}
 use Rattle.model.specs.Slot.{requestUnknown, nothingToTake, leavesUncovered, tailFull, headFull, refusals, refusal}
 use Rattle.model.specs.Slot.{Answer, accept, refuse, answer, slot}
-use Rattle.model.proofs.Words.{no-refusal-at, when-zero}
+use Rattle.model.proofs.Words.{positive, no-refusal-at, when-zero}
 use Rattle.model.proofs.Rules.{Rules, Keeps, keeps-facts, ArrivalTaken}
 
 -- Refusals 3, 2 and 4 to 9, all but 10.
@@ -36,10 +36,6 @@ pub record Judged (design : Design) (x : State) (store : List ℕ) (call : Call)
 pub record Accepted (design : Design) (x : State) (store : List ℕ) (call : Call) : Type 0 where
   pub judged : Judged design x store call
   pub head-room : headFull (wrote x call) (queueToRead (wrote x call)) ≡ false
-
-positive : (n : ℕ) → (n ≡ 0 → ⊥) → 1 ≤ n
-positive zero h = absurd (h refl)
-positive (suc n) h = omega arith
 
 and-false : (s t : Bool) → (not s && t) ≡ false → s ≡ false → t ≡ false
 and-false s t e f = rw f at e

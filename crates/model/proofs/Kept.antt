@@ -23,7 +23,7 @@ use Rattle.model.proofs.Bytes.{length-for, length-without-le}
 use Rattle.model.proofs.Fullest.{IsFullest, fullest-some}
 use Rattle.model.proofs.Rings.{place-fits, block-length}
 use Rattle.model.proofs.Rules.{Rules, Keeps, ArrivalTaken, WriteTaken, ReadTaken, rules-delivered, rules-arrived}
-use Rattle.model.proofs.Rules.{rules-asked, rules-wrote, scan-taken, rules-read, rules-phase}
+use Rattle.model.proofs.Rules.{rules-asked, rules-wrote, length-tail-left, scan-taken, rules-read, rules-phase}
 use Rattle.model.proofs.Accepted.{Judged, Accepted, Outcome, was-refused, was-accepted, outcome}
 
 -- A place of the store that a block is written to: the other bytes stay.
@@ -70,18 +70,11 @@ length-head-without empty head = omega arith
 length-head-without (held q v) head = omega arith
 length-head-without (owed q) head = length-without-le 1 q head
 
-length-tail-left : (x : State) (request : Option ℕ) → length (tailLeft x request) ≤ length (x .tail)
-length-tail-left x none = omega arith
-length-tail-left x (some q) =
-    by-test (isOwed x q)
-    (λ t. rw t (omega arith))
-    (λ t. rw t (omega (arith, length-without-le 1 q (x .tail))))
-
 length-tail-written : (x : State) (o : Option ℕ) → length (tailWritten o x) ≤ length (x .tail)
 length-tail-written x none = omega arith
 length-tail-written x (some q) = length-without-le (x .sizes .b) q (x .tail)
 
-length-joined : (x : State) (arrival : Option Byte)
+pub length-joined : (x : State) (arrival : Option Byte)
     → length (x .tail) ≤ tailSize (x .sizes)
     → ((y : Byte) → arrival ≡ some y → length (x .tail) < tailSize (x .sizes))
     → length (x .tail ++ arriving arrival) ≤ tailSize (x .sizes)

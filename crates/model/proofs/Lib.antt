@@ -9,3 +9,11 @@ pub mod Rings
 pub mod Rules
 pub mod Accepted
 pub mod Kept
+pub mod Walk
+pub mod Invariant
+pub mod Good
+pub mod Store
+pub mod Streams
+pub mod IdealSlot
+pub mod Delay
+pub mod Demand

@@ -20,7 +20,7 @@ use Rattle.model.specs.Slot.{bytesFor, blockAt, headRead, ringsRead, aft
 use Rattle.model.proofs.Words.{by-test, at-queue, eqb-same, none-not-some, some-inj, and-both, between-facts}
 use Rattle.model.proofs.Words.{between-holds, all-of-facts, all-of-holds, all-append, all-below-facts, all-below-holds}
 use Rattle.model.proofs.Words.{all-true-at}
-use Rattle.model.proofs.Bytes.{Below, below-for, below-without, count-append, count-one-same, count-one-other, count-without, count-refilled}
+use Rattle.model.proofs.Bytes.{Below, below-for, below-without, length-without-le, count-append, count-one-same, count-one-other, count-without, count-refilled}
 use Rattle.model.proofs.Cells.{CellBelow, CellsBelow, cell-below-fact, cell-below-holds, cells-below-drop, owed-append}
 use Rattle.model.proofs.Cells.{owed-below, owed-empties, cells-below-empties}
 use Rattle.model.proofs.Scan.{scan-some}
@@ -195,6 +195,13 @@ count-tail-left x (some p) q =
     by-test (isOwed x p)
     (λ t. rw t (omega arith))
     (λ t. rw t (omega (arith, count-without 1 p q (x .tail))))
+
+pub length-tail-left : (x : State) (request : Option ℕ) → length (tailLeft x request) ≤ length (x .tail)
+length-tail-left x none = omega arith
+length-tail-left x (some q) =
+    by-test (isOwed x q)
+    (λ t. rw t (omega arith))
+    (λ t. rw t (omega (arith, length-without-le 1 q (x .tail))))
 
 below-tail-left : (x : State) (request : Option ℕ) → Below (x .sizes .Q) (x .tail) → Below (x .sizes .Q) (tailLeft x request)
 below-tail-left x none h = h

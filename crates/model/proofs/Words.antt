@@ -27,6 +27,10 @@ by-option (some y) at-none at-some = at-some y refl
 pub at-queue : (P : ℕ → Type 0) (q : ℕ) → P q → ((p : ℕ) → eqb q p ≡ false → P p) → (p : ℕ) → P p
 at-queue P q here there p = by-test (eqb q p) (λ t. subst P (eqb-true q p t) here) (λ t. there p t)
 
+pub positive : (n : ℕ) → (n ≡ 0 → ⊥) → 1 ≤ n
+positive zero h = absurd (h refl)
+positive (suc n) h = omega arith
+
 pub eqb-same : (q : ℕ) → eqb q q ≡ true
 eqb-same q = eq-eqb q q refl
 
@@ -115,3 +119,15 @@ when-zero false n e = refl
 pub some-later : {A : Type 0} (test : A → Bool) (x : A) (xs : List A) → someOf test xs ≡ true
     → someOf test (x ∷ xs) ≡ true
 some-later test x xs e = by-test (test x) (λ t. rw t) (λ t. rw t e)
+
+-- A list of low numbers, and one more that is 0 unless one of them stands before it: the first is low.
+pub low-refusal : (most : ℕ) (ns : List ℕ) (n : ℕ) → All (λ (m : ℕ). m ≤ most) ns → (firstRefusal ns ≡ 0 → n ≡ 0)
+    → firstRefusal (ns ++ n ∷ []) ≤ most
+low-refusal most [] zero h f = omega arith
+low-refusal most [] (suc n) h f = absurd (omega (arith, f refl))
+low-refusal most (zero ∷ ns) n h f = low-refusal most ns n (h .1) f
+low-refusal most (suc m ∷ ns) n h f = h .0
+
+pub when-le : (most : ℕ) (t : Bool) (n : ℕ) → n ≤ most → when t n ≤ most
+when-le most true n h = h
+when-le most false n h = omega arith

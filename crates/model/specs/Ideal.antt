@@ -1,15 +1,16 @@
 -- The ideal buffer, as its user thinks of it: for each queue the bytes not yet asked for, and a delay line. And the ideal
 -- buffer that a state and its store stand for.
+use mathlib.Core.Path.{_≡_}
 use mathlib.Core.Bool.{Bool, true, false}
 use mathlib.Core.List.{List, [], _∷_, _++_}
 use mathlib.Core.Option.{Option, some, none}
-use Prim.Native.Nat.{ℕ, zero, suc, _+_, _%_}
+use Prim.Native.Nat.{ℕ, zero, suc, _+_, _%_, _≤_}
 use lib.Dec.{eqb}
-use lib.ListN.{drop, getElem?}
+use lib.ListN.{length, drop, getElem?}
 use Rattle.model.specs.Words.{update}
 use Rattle.model.specs.Sizes.{Sizes}
 use Rattle.model.specs.State.{Byte, byte, Cell, empty, held, owed, State, valuesOf, owedCells, ringOf}
-use Rattle.model.specs.Slot.{Call, asByte, arriving, blockAt}
+use Rattle.model.specs.Slot.{Call, asByte, arriving, blockAt, Answer}
 use Rattle.model.specs.Lists.{asks}
 
 -- `waiting q`: the bytes of q not yet asked for, oldest first. `line`: what the coming slots will deliver, soonest first.
@@ -57,3 +58,11 @@ abbrev pub standsFor : State → List ℕ → Ideal
 standsFor x store = record
   { waiting = λ q. drop (owedCells x q) (stream x store q) ++ valuesOf q (x .tail)
   ; line = lineOf (stream x store) (x .cells) }
+
+-- An answer is a slot of the ideal buffer: it delivers what the ideal buffer delivers, the state and the store that it
+-- leaves stand for what the ideal slot leaves, and a byte waited for its request.
+pub record IsIdealSlot (x : State) (store : List ℕ) (call : Call) (a : Answer) : Type 0 where
+  pub delivers : a .delivered ≡ idealDelivery (standsFor x store)
+  pub leaves : standsFor (a .state) (a .store) ≡ idealSlot call (standsFor x store)
+  pub byte-waits :
+      (q : ℕ) → asks q (call .request) ≤ length (withArrival (standsFor x store .waiting) (call .arrival) q)

@@ -34,13 +34,16 @@ paperLimits = record
   ; mostRingBlocks = 255
   ; mostSpan = 2016 }
 
--- "Q queues, 1 to 64. b bytes to a block, 1 to 128. K blocks of slow store to a queue, 1 to 255. Also Q(b - 1) is at most 2,016."
-abbrev pub accepts : Limits → Sizes → Bool
-accepts limits s = allTrue (
+-- "Q queues, 1 to 64. b bytes to a block, 1 to 128. K blocks of slow store to a queue, 1 to 255. Also Q(b - 1) is at
+-- most 2,016."
+abbrev pub sizeRules : Limits → Sizes → List Bool
+sizeRules limits s =
     between 1 (s .Q) (limits .mostQueues) ∷
     between 1 (s .b) (limits .mostBlockBytes) ∷
     between 1 (s .K) (limits .mostRingBlocks) ∷
-    leb (span s) (limits .mostSpan) ∷ [])
+    leb (span s) (limits .mostSpan) ∷ []
+abbrev pub accepts : Limits → Sizes → Bool
+accepts limits s = allTrue (sizeRules limits s)
 
 -- "Lookahead L = Q(b - 1) + 1 cells."
 abbrev pub lookahead : Sizes → ℕ

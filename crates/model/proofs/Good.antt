@@ -1,0 +1,199 @@
+-- From a state that keeps the rules and the invariant, a slot is never refused with 8, 9 or 10, and leaves such a state.
+use mathlib.Core.Path.{_≡_, refl, ap, sym, _∙_, subst}
+use mathlib.Core.Bool.{Bool, true, false, not}
+use mathlib.Core.List.{List, [], _∷_, _++_}
+use mathlib.Core.Option.{Option, some, none}
+use Prim.Native.Nat.{ℕ, zero, suc, _+_, _-_, _*_, _<_, _≤_}
+use native.Mathlib.Omega.{arith}
+use lib.Dec.{eqb, ltb}
+use lib.ListN.{length, length-append}
+use borrow.Author.Tests.{eqb-true, eqb-false, lt-leb, le-ltb}
+use Rattle.model.specs.Words.{choose, when, firstRefusal, All}
+use Rattle.model.specs.Sizes.{Sizes, Limits, sizeRules, accepts, span, lookahead, tailSize, headSize, storeBytes, full}
+use Rattle.model.specs.State.{Byte, State, fresh, tailBytes, headBytes, ringOf, keeps}
+use Rattle.model.specs.Slot.{Call, oldestCell, afterDelivery, afterRequest, moves, fullest, queueToWrite, afterWrite}
+use Rattle.model.specs.Slot.{refillQueue, queueToRead, blockAt, bytesFor, headRead, afterRead, afterPhase, joined, asked}
+use Rattle.model.specs.Slot.{wrote, wroteStore, refilled, arrivalUnknown, arrivalFull, requestUnknown, nothingToTake}
+use Rattle.model.specs.Slot.{leavesUncovered, tailFull, headFull, refusals, refusal, Answer, accept, slot}
+use Rattle.model.proofs.Words.{by-test, none-not-some, between-facts, all-true-at, low-refusal, when-le}
+use Rattle.model.proofs.Bytes.{length-for}
+use Rattle.model.proofs.Rules.{Rules, Keeps, rules-fresh}
+use Rattle.model.proofs.Accepted.{Judged, Accepted, earlyRefusals, judged-facts, Outcome, was-refused, was-accepted, outcome}
+use Rattle.model.proofs.Kept.{Kept, rules-2, rules-3, rules-written, rules-refilled, block-whole, accept-kept}
+use Rattle.model.proofs.Invariant.{Invariant, invariant-fresh, invariant-delivered, invariant-arrived, invariant-asked}
+use Rattle.model.proofs.Invariant.{invariant-wrote, invariant-read, oldest-covered, head-bounded}
+
+-- Accepted sizes are 1 or more. It is all that the theory uses of the limits.
+pub record Positive (s : Sizes) : Type 0 where
+  pub q-positive : 1 ≤ s .Q
+  pub b-positive : 1 ≤ s .b
+  pub k-positive : 1 ≤ s .K
+
+pub positive-sizes : (limits : Limits) (s : Sizes) → accepts limits s ≡ true → Positive s
+positive-sizes limits s e = record
+  { q-positive = between-facts 1 (s .Q) (limits .mostQueues) (all-true-at (sizeRules limits s) 0 e) .0
+  ; b-positive = between-facts 1 (s .b) (limits .mostBlockBytes) (all-true-at (sizeRules limits s) 1 e) .0
+  ; k-positive = between-facts 1 (s .K) (limits .mostRingBlocks) (all-true-at (sizeRules limits s) 2 e) .0 }
+
+pub record Good (limits : Limits) (x : State) : Type 0 where
+  pub kept : Keeps (full limits) x
+  pub invariant : Invariant (x .phase) (x .phase) (x .phase) x
+
+pub keeps-fresh : (limits : Limits) (s : Sizes) → accepts limits s ≡ true → Keeps (full limits) (fresh (full limits) s)
+keeps-fresh limits s e = record
+  { sizes-ok = e
+  ; phase-ok = positive-sizes limits s e .b-positive
+  ; within = rules-fresh (full limits) s (positive-sizes limits s e .k-positive)
+  ; tail-fits = omega arith
+  ; head-fits = omega arith
+  ; tail-mark = (omega arith, omega arith)
+  ; head-mark = (omega arith, omega arith) }
+
+pub good-fresh : (limits : Limits) (s : Sizes) → accepts limits s ≡ true → Good limits (fresh (full limits) s)
+good-fresh limits s e = record { kept = keeps-fresh limits s e; invariant = invariant-fresh (full limits) s }
+
+-- Whether the two moves are made.
+writes-fullest : (y : State) → moves y ≡ true → queueToWrite y ≡ fullest (y .sizes .b) (tailBytes y) (y .sizes .Q)
+writes-fullest y t = rw t
+
+reads-scan : (y : State) → moves y ≡ true → queueToRead y ≡ refillQueue (headBytes y) (y .cells)
+reads-scan y t = rw t
+
+writes-none : (y : State) → moves y ≡ false → queueToWrite y ≡ none
+writes-none y t = rw t
+
+reads-none : (y : State) → moves y ≡ false → queueToRead y ≡ none
+reads-none y t = rw t
+
+wrote-none : (i j k : ℕ) (y : State) (o : Option ℕ) → o ≡ none → Invariant i j k y → Invariant i j k (afterWrite o y)
+wrote-none i j k y o e v =
+    subst (λ (p : Option ℕ). Invariant i j k (afterWrite p y)) (sym e)
+    (record { covered = v .covered; owed-few = v .owed-few; orders-late = v .orders-late; tail-light = v .tail-light })
+
+read-none : (i j k : ℕ) (y : State) (store : List ℕ) (o : Option ℕ) → o ≡ none → Invariant i j k y
+    → Invariant i j k (afterRead o y store)
+read-none i j k y store o e v =
+    subst (λ (p : Option ℕ). Invariant i j k (afterRead p y store)) (sym e)
+    (record { covered = v .covered; owed-few = v .owed-few; orders-late = v .orders-late; tail-light = v .tail-light })
+
+next-phase : (i : ℕ) (y : State) → choose (moves y) 0 (y .phase + 1) ≡ i → Invariant i i i y
+    → Invariant (afterPhase y .phase) (afterPhase y .phase) (afterPhase y .phase) (afterPhase y)
+next-phase i y e v =
+    subst (λ (p : ℕ). Invariant p p p (afterPhase y)) (sym e)
+    (record { covered = v .covered; owed-few = v .owed-few; orders-late = v .orders-late; tail-light = v .tail-light })
+
+-- The invariant through a slot that refusals 2 to 9 let through.
+module _ (limits : Limits) (x : State) (store : List ℕ) (call : Call)
+    (good : Good limits x) (j : Judged (full limits) x store call) where
+  abbrev p : ℕ
+  p = x .phase
+  abbrev b : ℕ
+  b = x .sizes .b
+  abbrev y : State
+  y = asked x call
+  abbrev z : State
+  z = wrote x call
+  abbrev store′ : List ℕ
+  store′ = wroteStore x store call
+
+  cells-ok : 1 ≤ lookahead (x .sizes)
+  cells-ok = omega arith
+
+  b-positive : 1 ≤ b
+  b-positive = omega (arith, good .kept .phase-ok)
+
+  invariant-3 : Invariant (suc p) (suc p) (suc p) y
+  invariant-3 =
+      invariant-asked p (joined x call) (call .request) (j .request-ok) b-positive
+      (subst (λ (n : ℕ). Rules n (joined x call)) (let e : lookahead (x .sizes) - 1 ≡ span (x .sizes) = omega arith in e)
+        (rules-2 (full limits) x store call cells-ok j))
+      (invariant-arrived p (afterDelivery x) (call .arrival)
+        (invariant-delivered p x (good .kept .phase-ok) (j .covered) (good .invariant)))
+
+  module _ (t : moves x ≡ true) where
+    last-slot : suc p ≡ b
+    last-slot = omega (arith, eqb-true p (b - 1) t, b-positive)
+
+    invariant-moved-out : Invariant b b 0 z
+    invariant-moved-out =
+        invariant-wrote (lookahead (x .sizes)) y (queueToWrite y) (sym (writes-fullest y t))
+        (rules-3 (full limits) x store call cells-ok j)
+        (subst (λ (n : ℕ). Invariant n n n y) last-slot invariant-3)
+
+    invariant-moved : Invariant 0 0 0 (refilled x store call)
+    invariant-moved =
+        invariant-read (lookahead (x .sizes)) z store′ (queueToRead z) (sym (reads-scan z t))
+        (block-whole (full limits) x store call cells-ok j) b-positive
+        (rules-written (full limits) x store call cells-ok j) invariant-moved-out
+
+  -- 10 never comes: after the read the head is within its bound.
+  pub no-10 : headFull z (queueToRead z) ≡ false
+  no-10 = go (queueToRead z) refl
+    where
+      moving : (q : ℕ) → queueToRead z ≡ some q → moves x ≡ true
+      moving q e = by-test (moves x) (λ t. t) (λ t. absurd (none-not-some q (sym (reads-none z t) ∙ e)))
+      go : (o : Option ℕ) → queueToRead z ≡ o → headFull z o ≡ false
+      go none e = refl
+      go (some q) e =
+          le-ltb (headSize (x .sizes)) (length (z .head) + b)
+          (omega (arith, length-append (z .head) (bytesFor q block), length-for q block
+            , block-whole (full limits) x store call cells-ok j q e
+            , subst (λ (o : Option ℕ). length (headRead o z store′) ≤ lookahead (x .sizes) + span (x .sizes)) e bounded))
+        where
+          block : List ℕ
+          block = blockAt (x .sizes) store′ q (ringOf (z .rings) q .first)
+          bounded : length (refilled x store call .head) ≤ lookahead (x .sizes) + span (x .sizes)
+          bounded =
+              head-bounded (lookahead (x .sizes)) 0 0 0 (refilled x store call)
+              (rules-refilled (full limits) x store call cells-ok j) (invariant-moved (moving q e))
+
+  invariant-next : Invariant (afterPhase (refilled x store call) .phase) (afterPhase (refilled x store call) .phase)
+      (afterPhase (refilled x store call) .phase) (afterPhase (refilled x store call))
+  invariant-next =
+      by-test (moves x)
+      (λ t. next-phase 0 (refilled x store call) (rw t) (invariant-moved t))
+      (λ t. next-phase (suc p) (refilled x store call) (rw t (let e : p + 1 ≡ suc p = omega arith in e))
+          (read-none (suc p) (suc p) (suc p) z store′ (queueToRead z) (reads-none z t)
+            (wrote-none (suc p) (suc p) (suc p) y (queueToWrite y) (writes-none y t) invariant-3)))
+
+  pub accept-good : Good limits (accept x store call .state)
+  accept-good = record
+    { kept = accept-kept (full limits) x store call cells-ok (record { judged = j; head-room = no-10 }) .kept
+    ; invariant = invariant-next }
+
+-- Every refusal of a slot on a good state is 7 or lower.
+module _ (limits : Limits) (x : State) (store : List ℕ) (call : Call) (good : Good limits x) where
+  no-9 : (arrival : Option Byte) → tailFull x arrival ≡ false
+  no-9 none = refl
+  no-9 (some y) =
+      lt-leb (tailSize (x .sizes)) (length (x .tail)) (omega (arith, good .invariant .tail-light, good .kept .phase-ok))
+
+  pub refusal-low : refusal (full limits) x store call ≤ 7
+  refusal-low =
+      low-refusal 7 (earlyRefusals (full limits) x store call) (when (headFull (wrote x call) (queueToRead (wrote x call))) 10)
+      ( when-le 7 (not (keeps (full limits) x)) 3 (omega arith)
+      , (when-le 7 (ltb (length store) (storeBytes (x .sizes))) 2 (omega arith)
+      , (when-le 7 (arrivalUnknown x (call .arrival)) 4 (omega arith)
+      , (when-le 7 (arrivalFull x (call .arrival)) 5 (omega arith)
+      , (when-le 7 (requestUnknown x (call .request)) 6 (omega arith)
+      , (when-le 7 (nothingToTake x (call .arrival) (call .request)) 7 (omega arith)
+      , (rw (oldest-covered (x .phase) x (good .kept .phase-ok) (good .invariant)) (omega arith)
+      , (rw (no-9 (call .arrival)) (omega arith)
+      , tt))))))))
+      (λ e. rw (no-10 limits x store call good (judged-facts (full limits) x store call e)))
+
+-- A slot on a good state: its number, and the state that it leaves.
+pub record GoodSlot (limits : Limits) (x : State) (a : Answer) : Type 0 where
+  pub good : Good limits (a .state)
+  pub low : a .number ≤ 7
+  pub same-sizes : a .state .sizes ≡ x .sizes
+
+pub slot-good : (limits : Limits) (x : State) (store : List ℕ) (call : Call) → Good limits x
+    → GoodSlot limits x (slot (full limits) x store call)
+slot-good limits x store call good = go (slot (full limits) x store call) (outcome (full limits) x store call)
+  where
+    go : (a : Answer) → Outcome (full limits) x store call a → GoodSlot limits x a
+    go a (was-refused n e) =
+        record { good = good; low = omega (arith, e, refusal-low limits x store call good); same-sizes = refl }
+    go a (was-accepted f) =
+        record { good = accept-good limits x store call good (f .judged); low = omega arith; same-sizes = refl }

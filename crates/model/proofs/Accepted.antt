@@ -1,20 +1,20 @@
--- A slot is refused whole, or accepted with none of the refusals; and what it tells of state, store and call that none of
--- them holds.
+-- A slot is refused whole, or accepted with none of the refusals; and what it tells of state, store and call that
+-- none of them holds.
 use mathlib.Core.Path.{_≡_, refl, ap, sym, _∙_, subst}
-use mathlib.Core.Bool.{Bool, true, false, _&&_, not}
+use mathlib.Core.Bool.{Bool, false, _&&_, not}
 use mathlib.Core.List.{List, [], _∷_, _++_}
 use mathlib.Core.Option.{Option, some, none}
-use Prim.Native.Nat.{ℕ, zero, suc, _+_, _-_, _*_, _<_, _≤_}
+use Prim.Native.Nat.{ℕ, zero, suc, _+_, _*_, _<_, _≤_}
 use native.Mathlib.Omega.{arith}
-use lib.Dec.{eqb, ltb, leb}
+use lib.Dec.{eqb}
 use lib.ListN.{length, take, getD}
 use borrow.Author.Tests.{eqb-false, leb-false, ltb-false, not-false}
-use Rattle.model.specs.Words.{choose, when, firstRefusal, All}
-use Rattle.model.specs.Sizes.{Sizes, Design, tailSize, storeBytes}
-use Rattle.model.specs.State.{Byte, Cell, State, countOf, tailBytes, blocks, keeps}
-use Rattle.model.specs.Slot.{Call, arriving, isOwed, oldestCell, wrote, queueToRead, arrivalUnknown, arrivalFull}
-use Rattle.model.specs.Slot.{requestUnknown, nothingToTake, leavesUncovered, tailFull, headFull, refusals, refusal}
-use Rattle.model.specs.Slot.{Answer, accept, refuse, answer, slot}
+use Rattle.model.specs.Words.{when, firstRefusal}
+use Rattle.model.specs.Sizes.{Design, tailSize, storeBytes}
+use Rattle.model.specs.State.{Byte, State, countOf, tailBytes, blocks, keeps}
+use Rattle.model.specs.Slot.{Call, arriving, isOwed, oldestCell, wrote, queueToRead, arrivalUnknown}
+use Rattle.model.specs.Slot.{arrivalFull, requestUnknown, nothingToTake, leavesUncovered, tailFull, headFull}
+use Rattle.model.specs.Slot.{refusals, refusal, Answer, accept, refuse, answer, slot}
 use Rattle.model.proofs.Words.{positive, no-refusal-at, when-zero}
 use Rattle.model.proofs.Rules.{Rules, Keeps, keeps-facts, ArrivalTaken}
 
@@ -28,7 +28,8 @@ pub record Judged (design : Design) (x : State) (store : List ℕ) (call : Call)
   pub store-long : storeBytes (x .sizes) ≤ length store
   pub arrival-ok : ArrivalTaken x (call .arrival)
   pub request-ok : (q : ℕ) → call .request ≡ some q → q < x .sizes .Q
-  pub byte-there : (q : ℕ) → call .request ≡ some q → isOwed x q ≡ false → 1 ≤ countOf q (x .tail ++ arriving (call .arrival))
+  pub byte-there : (q : ℕ) → call .request ≡ some q → isOwed x q ≡ false → 1 ≤ countOf q
+      (x .tail ++ arriving (call .arrival))
   pub covered : leavesUncovered (oldestCell (x .cells)) x ≡ false
   pub tail-room : (y : Byte) → call .arrival ≡ some y → length (x .tail) < tailSize (x .sizes)
 
@@ -43,18 +44,23 @@ and-false s t e f = rw f at e
 arrival-taken : (x : State) (arrival : Option Byte) → arrivalUnknown x arrival ≡ false → arrivalFull x arrival ≡ false
     → (n : ℕ) → Rules n x → ArrivalTaken x arrival
 arrival-taken x none e f n v y s = absurd (let z : _≡_ {A = ℕ} 0 1 = cc in omega arith)
-arrival-taken x (some y) e f n v z s = subst Taken same (below, omega (arith, v .room (y .queue) below, eqb-false used all f))
+arrival-taken x (some y) e f n v z s = subst Taken same
+    (below, omega (arith, v .room (y .queue) below, eqb-false used all f))
   where
     Taken : Byte → Type 0
     Taken w =
         (w .queue < x .sizes .Q)
         × (tailBytes x (w .queue) + x .sizes .b * blocks x (w .queue) < x .sizes .K * x .sizes .b)
+
     same : y ≡ z
     same = cc
+
     used : ℕ
     used = tailBytes x (y .queue) + x .sizes .b * blocks x (y .queue)
+
     all : ℕ
     all = x .sizes .K * x .sizes .b
+
     below : y .queue < x .sizes .Q
     below = leb-false (x .sizes .Q) (y .queue) e
 
@@ -65,7 +71,8 @@ request-known x request e q s = leb-false (x .sizes .Q) q (ap (requestUnknown x)
 something-to-take : (x : State) (arrival : Option Byte) (request : Option ℕ) → nothingToTake x arrival request ≡ false
     → (q : ℕ) → request ≡ some q → isOwed x q ≡ false → 1 ≤ countOf q (x .tail ++ arriving arrival)
 something-to-take x arrival request e q s f =
-    positive there (eqb-false there 0 (and-false (isOwed x q) (eqb there 0) (ap (nothingToTake x arrival) (sym s) ∙ e) f))
+    positive there (eqb-false there 0
+    (and-false (isOwed x q) (eqb there 0) (ap (nothingToTake x arrival) (sym s) ∙ e) f))
   where
     there : ℕ
     there = countOf q (x .tail ++ arriving arrival)
@@ -76,22 +83,26 @@ tail-takes x arrival e y s = leb-false (tailSize (x .sizes)) (length (x .tail)) 
 
 module _ (design : Design) (x : State) (store : List ℕ) (call : Call) where
   pub judged-facts : firstRefusal (earlyRefusals design x store call) ≡ 0 → Judged design x store call
-  judged-facts e = record
-    { kept = rules-kept
-    ; store-long = ltb-false (length store) (storeBytes (x .sizes)) (when-zero _ 1 (none-at 1))
-    ; arrival-ok = arrival-taken x (call .arrival) (when-zero _ 3 (none-at 2)) (when-zero _ 4 (none-at 3)) _ (rules-kept .within)
-    ; request-ok = request-known x (call .request) (when-zero _ 5 (none-at 4))
-    ; byte-there = something-to-take x (call .arrival) (call .request) (when-zero _ 6 (none-at 5))
-    ; covered = when-zero _ 7 (none-at 6)
-    ; tail-room = tail-takes x (call .arrival) (when-zero _ 8 (none-at 7)) }
+  judged-facts e = record {
+    kept = rules-kept;
+    store-long = ltb-false (length store) (storeBytes (x .sizes)) (when-zero _ 1 (none-at 1));
+    arrival-ok = arrival-taken x (call .arrival) (when-zero _ 3 (none-at 2)) (when-zero _ 4 (none-at 3)) _
+        (rules-kept .within);
+    request-ok = request-known x (call .request) (when-zero _ 5 (none-at 4));
+    byte-there = something-to-take x (call .arrival) (call .request) (when-zero _ 6 (none-at 5));
+    covered = when-zero _ 7 (none-at 6);
+    tail-room = tail-takes x (call .arrival) (when-zero _ 8 (none-at 7));
+  }
     where
       none-at : (i : ℕ) → getD (earlyRefusals design x store call) i 0 ≡ 0
       none-at i = no-refusal-at (earlyRefusals design x store call) i e
+
       rules-kept : Keeps design x
       rules-kept = keeps-facts design x (not-false (keeps design x) (when-zero (not (keeps design x)) 2 (none-at 0)))
 
   pub early-none : refusal design x store call ≡ 0 → firstRefusal (earlyRefusals design x store call) ≡ 0
-  early-none e = go (earlyRefusals design x store call) (when (headFull (wrote x call) (queueToRead (wrote x call))) 10) e
+  early-none e = go (earlyRefusals design x store call)
+      (when (headFull (wrote x call) (queueToRead (wrote x call))) 10) e
     where
       go : (ns : List ℕ) (n : ℕ) → firstRefusal (ns ++ n ∷ []) ≡ 0 → firstRefusal ns ≡ 0
       go [] n e = refl
@@ -99,9 +110,10 @@ module _ (design : Design) (x : State) (store : List ℕ) (call : Call) where
       go (suc m ∷ ns) n e = absurd (omega (arith, e))
 
   pub accepted-facts : refusal design x store call ≡ 0 → Accepted design x store call
-  accepted-facts e = record
-    { judged = judged-facts (early-none e)
-    ; head-room = when-zero _ 9 (no-refusal-at (refusals design x store call) 8 e) }
+  accepted-facts e = record {
+    judged = judged-facts (early-none e);
+    head-room = when-zero _ 9 (no-refusal-at (refusals design x store call) 8 e);
+  }
 
 -- A slot is one of the two.
 pub data Outcome (design : Design) (x : State) (store : List ℕ) (call : Call) : Answer → Type 0 where

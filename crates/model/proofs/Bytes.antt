@@ -1,16 +1,15 @@
--- A cache as its queues see it: what appending, removing the oldest and refilling do to the values of each queue, and the
--- fill as the sum over the queues.
+-- A cache as its queues see it: what appending, removing the oldest and refilling do to the values of each queue, and
+-- the fill as the sum over the queues.
 use mathlib.Core.Path.{_≡_, refl, ap, sym, _∙_, subst}
-use mathlib.Core.Bool.{Bool, true, false}
+use mathlib.Core.Bool.{false}
 use mathlib.Core.List.{List, [], _∷_, _++_}
-use mathlib.Core.Option.{Option, some, none}
-use Prim.Native.Nat.{ℕ, zero, suc, _+_, _-_, _*_, _<_, _≤_}
+use Prim.Native.Nat.{ℕ, zero, suc, _+_, _-_, _<_, _≤_}
 use native.Mathlib.Omega.{arith}
-use lib.Dec.{eqb, ltb}
+use lib.Dec.{eqb}
 use lib.ListN.{length, drop, length-append, length-drop}
-use borrow.Author.Tests.{eqb-true, ltb-true, lt-ltb}
+use borrow.Author.Tests.{eqb-true}
 use Rattle.model.specs.Words.{choose, All}
-use Rattle.model.specs.State.{Byte, byte, valuesOf, countOf}
+use Rattle.model.specs.State.{Byte, valuesOf, countOf}
 use Rattle.model.specs.Slot.{without, bytesFor}
 use Rattle.model.proofs.Words.{by-test, eqb-same}
 use Rattle.model.proofs.Sums.{sum, sum-zero, sum-shift}
@@ -50,8 +49,8 @@ pub count-refilled : (q p : ℕ) (xs : List Byte) (vs : List ℕ)
 count-refilled q p xs vs =
     count-append p xs (bytesFor q vs)
     ∙ by-test (eqb q p)
-      (λ t. rw (t, ← (eqb-true q p t), values-for-same q vs))
-      (λ t. rw (t, values-for-other q p vs t))
+    (λ t. rw (t, ← (eqb-true q p t), values-for-same q vs))
+    (λ t. rw (t, values-for-other q p vs t))
 
 -- Without the n oldest of a queue.
 pub values-without-same : (n q : ℕ) (xs : List Byte) → valuesOf q (without n q xs) ≡ drop n (valuesOf q xs)
@@ -68,8 +67,10 @@ values-without-other zero q p xs e = refl
 values-without-other (suc n) q p [] e = refl
 values-without-other (suc n) q p (x ∷ xs) e =
     by-test (eqb (x .queue) q)
-    (λ t. rw (t, subst (λ (i : ℕ). eqb i p ≡ false) (sym (eqb-true (x .queue) q t)) e) (values-without-other n q p xs e))
-    (λ t. rw t (ap (λ (l : List ℕ). choose (eqb (x .queue) p) (x .value ∷ l) l) (values-without-other (suc n) q p xs e)))
+    (λ t. rw (t, subst (λ (i : ℕ). eqb i p ≡ false) (sym (eqb-true (x .queue) q t)) e)
+    (values-without-other n q p xs e))
+    (λ t. rw t (ap (λ (l : List ℕ). choose (eqb (x .queue) p) (x .value ∷ l) l)
+    (values-without-other (suc n) q p xs e)))
 
 pub count-without : (n q p : ℕ) (xs : List Byte)
     → countOf p (without n q xs) ≡ countOf p xs - choose (eqb q p) n 0
@@ -114,7 +115,10 @@ below-without b (suc n) q (x ∷ xs) h =
 pub sum-counts : (n : ℕ) (xs : List Byte) → Below n xs → sum n (λ q. countOf q xs) ≡ length xs
 sum-counts n [] h = sum-zero n (λ q. 0) (λ q. refl)
 sum-counts n (x ∷ xs) h =
-    omega (arith, sum-counts n xs (h .1)
-      , sum-shift n (λ q. countOf q xs) (λ q. countOf q (x ∷ xs)) (x .queue) 0 1 (h .0)
+    omega (
+      arith,
+      sum-counts n xs (h .1),
+      sum-shift n (λ q. countOf q xs) (λ q. countOf q (x ∷ xs)) (x .queue) 0 1 (h .0)
           (rw (eqb-same (x .queue)) (omega arith))
-          (λ p t. rw t))
+          (λ p t. rw t),
+    )

@@ -1,13 +1,13 @@
 -- The lookahead as its queues see it: Owed cells of each queue and of all queues.
 use mathlib.Core.Path.{_≡_, refl, ap, fun-ext}
-use mathlib.Core.Bool.{Bool, true, false}
+use mathlib.Core.Bool.{true}
 use mathlib.Core.List.{List, [], _∷_, _++_}
-use Prim.Native.Nat.{ℕ, zero, suc, _+_, _-_, _*_, _<_, _≤_}
+use Prim.Native.Nat.{ℕ, zero, suc, _+_, _<_, _≤_}
 use native.Mathlib.Omega.{arith}
-use lib.Dec.{eqb, ltb}
+use lib.Dec.{eqb}
 use lib.ListN.{length, replicate, drop}
 use borrow.Author.Tests.{eqb-true, ltb-true, lt-ltb}
-use Rattle.model.specs.Words.{choose, All}
+use Rattle.model.specs.Words.{All}
 use Rattle.model.specs.State.{Cell, empty, held, owed, owes, owedOf, cellBelow}
 use Rattle.model.proofs.Words.{by-test, eqb-same}
 use Rattle.model.proofs.Sums.{sum, sum-zero, sum-shift}
@@ -24,6 +24,7 @@ abbrev pub CellBelow : ℕ → Cell → Type 0
 CellBelow n empty = Unit {0}
 CellBelow n (held q v) = q < n
 CellBelow n (owed q) = q < n
+
 abbrev pub CellsBelow : ℕ → List Cell → Type 0
 CellsBelow n cells = All (CellBelow n) cells
 
@@ -63,6 +64,7 @@ abbrev pub isOwing : Cell → ℕ
 isOwing empty = 0
 isOwing (held q v) = 0
 isOwing (owed q) = 1
+
 abbrev pub allOwed : List Cell → ℕ
 allOwed [] = 0
 allOwed (c ∷ cells) = isOwing c + allOwed cells
@@ -84,15 +86,23 @@ sum-owed n (empty ∷ cells) h = omega (arith, sum-owed n cells (h .1), same-sum
     same-sum : (n : ℕ) (c : Cell) (cells : List Cell) → ((q : ℕ) → owes q c ≡ 0)
         → sum n (λ q. owedOf q (c ∷ cells)) ≡ sum n (λ q. owedOf q cells)
     same-sum n c cells z =
-        ap (sum n) (fun-ext {f = λ (q : ℕ). owedOf q (c ∷ cells)} {g = λ (q : ℕ). owedOf q cells} (λ q. omega (arith, z q)))
+        ap (sum n) (fun-ext {f = λ (q : ℕ). owedOf q (c ∷ cells)} {g = λ (q : ℕ). owedOf q cells}
+        (λ q. omega (arith, z q)))
 sum-owed n (held p v ∷ cells) h =
-    omega (arith, sum-owed n cells (h .1)
-      , ap (sum n) (fun-ext {f = λ (q : ℕ). owedOf q (held p v ∷ cells)} {g = λ (q : ℕ). owedOf q cells} (λ q. omega arith)))
+    omega (
+      arith,
+      sum-owed n cells (h .1),
+      ap (sum n) (fun-ext {f = λ (q : ℕ). owedOf q (held p v ∷ cells)} {g = λ (q : ℕ). owedOf q cells}
+          (λ q. omega arith)),
+    )
 sum-owed n (owed p ∷ cells) h =
-    omega (arith, sum-owed n cells (h .1)
-      , sum-shift n (λ q. owedOf q cells) (λ q. owedOf q (owed p ∷ cells)) p 0 1 (h .0)
+    omega (
+      arith,
+      sum-owed n cells (h .1),
+      sum-shift n (λ q. owedOf q cells) (λ q. owedOf q (owed p ∷ cells)) p 0 1 (h .0)
           (rw (eqb-same p) (omega arith))
-          (λ q t. rw t (omega arith)))
+          (λ q t. rw t (omega arith)),
+    )
 
 -- A fresh lookahead owes nothing.
 pub owed-empties : (n q : ℕ) → owedOf q (replicate n empty) ≡ 0

@@ -1,36 +1,36 @@
--- The fixed delay. The accepted slots of a list are slots of the ideal buffer, whose line is a delay line: what its slots
--- deliver is the line as it stood and then what each request was given; and what a request was given is what it is owed.
--- All of it holds from every state that keeps the rules, for any number of cells.
+-- The fixed delay. The accepted slots of a list are slots of the ideal buffer, whose line is a delay line: what its
+-- slots deliver is the line as it stood and then what each request was given; and what a request was given is what it
+-- is owed. All of it holds from every state that keeps the rules, for any number of cells.
 use mathlib.Core.Path.{_≡_, refl, ap, sym, _∙_, fun-ext, subst}
-use mathlib.Core.Bool.{Bool, true, false}
-use mathlib.Core.List.{List, [], _∷_, _++_, append-assoc, append-nil, map}
+use mathlib.Core.List.{List, [], _∷_, _++_, append-assoc}
 use mathlib.Core.Option.{Option, some, none}
-use Prim.Native.Nat.{ℕ, zero, suc, _+_, _-_, _*_, _<_, _≤_}
+use Prim.Native.Nat.{ℕ, zero, suc, _+_, _<_, _≤_}
 use native.Mathlib.Omega.{arith}
-use lib.Dec.{eqb}
 use lib.ListN.{length, drop, take, getElem?, length-append, length-drop}
 use lib.Seq.{drop-append-le, append-snoc}
 use borrow.Author.Tests.{ne-eqb}
-use Rattle.model.specs.Words.{choose, tabulate}
+use Rattle.model.specs.Words.{tabulate}
 use Rattle.model.specs.Sizes.{Design}
 use Rattle.model.specs.State.{Byte, State, valuesOf}
 use Rattle.model.specs.Slot.{Call, asByte, arriving, Answer, slot}
 use Rattle.model.specs.Lists.{Step, stepOf, run, accepted, deliveries, arrivalsOf, asks, requestsOf, requestAt}
-use Rattle.model.specs.Lists.{owedTo, owedAt, owedToAll}
+use Rattle.model.specs.Lists.{owedTo}
 use Rattle.model.specs.Ideal.{Ideal, soonest, withArrival, given, idealSlot, standsFor, stream, IsIdealSlot}
-use Rattle.model.proofs.Words.{eqb-same, none-not-some, some-inj}
+use Rattle.model.proofs.Words.{eqb-same, none-not-some}
 use Rattle.model.proofs.Rules.{Keeps}
-use Rattle.model.proofs.Accepted.{Accepted, Outcome, was-refused, was-accepted, outcome}
-use Rattle.model.proofs.Kept.{Kept, slot-kept}
+use Rattle.model.proofs.Accepted.{Outcome, was-refused, was-accepted, outcome}
+use Rattle.model.proofs.Kept.{slot-kept}
 use Rattle.model.proofs.Streams.{line-length, first-append}
 use Rattle.model.proofs.IdealSlot.{accepted-is-ideal}
 
 -- What the ideal buffer gives to each request of a list of slots, and that it has a byte for each.
 abbrev pub leftWaiting : (ℕ → List ℕ) → Step → ℕ → List ℕ
 leftWaiting w step q = drop (asks q (step .request)) (withArrival w (step .arrival) q)
+
 abbrev pub gives : (ℕ → List ℕ) → List Step → List (Option Byte)
 gives w [] = []
 gives w (step ∷ slots) = given (withArrival w (step .arrival)) (step .request) ∷ gives (leftWaiting w step) slots
+
 abbrev pub Finds : (ℕ → List ℕ) → List Step → Type 0
 Finds w [] = Unit {0}
 Finds w (step ∷ slots) =
@@ -52,13 +52,14 @@ delays-more : (i : Ideal) (step : Step) (slots : List Step) → 1 ≤ length (i 
     → ((q : ℕ) → asks q (step .request) ≤ length (withArrival (i .waiting) (step .arrival) q))
     → Delays (idealSlot (record { arrival = step .arrival; request = step .request }) i) slots
     → Delays i (step ∷ slots)
-delays-more i step slots long first there d = record
-  { delivers =
+delays-more i step slots long first there d = record {
+  delivers =
       ap (λ (o : Option Byte). o ∷ deliveries slots) first
       ∙ ap (λ (l : List (Option Byte)). soonest (i .line) ∷ l) (d .delivers)
       ∙ line-shifts (i .line) (given (withArrival (i .waiting) (step .arrival)) (step .request))
-          (gives (leftWaiting (i .waiting) step) slots) (length slots) long
-  ; finds = (there, d .finds) }
+      (gives (leftWaiting (i .waiting) step) slots) (length slots) long;
+  finds = (there, d .finds);
+}
 
 -- From a state that keeps the rules.
 module _ (design : Design) where
@@ -85,10 +86,10 @@ module _ (design : Design) where
   run-delays x store (call ∷ calls) h v =
       let k = slot-kept design x store call h v in
       slot-delays x store call (slot design x store call)
-        (run design (slot design x store call .state) (slot design x store call .store) calls) h v
-        (outcome design x store call)
-        (run-delays (slot design x store call .state) (slot design x store call .store) calls
-          (rw (k .same-sizes) h) (k .kept))
+      (run design (slot design x store call .state) (slot design x store call .store) calls) h v
+      (outcome design x store call)
+      (run-delays (slot design x store call .state) (slot design x store call .store) calls
+      (rw (k .same-sizes) h) (k .kept))
 
 -- What a request was given is what it is owed, where `w` waited before the list began.
 abbrev owedFrom : (ℕ → List ℕ) → List Step → ℕ → Option ℕ → Option Byte
@@ -111,7 +112,8 @@ module _ (w : ℕ → List ℕ) (step : Step) (slots : List Step)
   given-now (some q) e =
       ap (asByte q)
       (sym (first-append (withArrival w (step .arrival) q) (arrivalsOf q slots) one)
-        ∙ ap (λ (l : List ℕ). getElem? l 0) (append-assoc (w q) (valuesOf q (arriving (step .arrival))) (arrivalsOf q slots)))
+      ∙ ap (λ (l : List ℕ). getElem? l 0)
+      (append-assoc (w q) (valuesOf q (arriving (step .arrival))) (arrivalsOf q slots)))
     where
       one : 1 ≤ length (withArrival w (step .arrival) q)
       one = omega (arith, there q, ap (asks q) e, own-request q)
@@ -121,14 +123,16 @@ module _ (w : ℕ → List ℕ) (step : Step) (slots : List Step)
   given-later t (some q) =
       ap (asByte q)
       (ap (λ (l : List ℕ). getElem? l n) (sym (drop-append-le k front (arrivalsOf q slots) (there q)))
-        ∙ nth-drop k n (front ++ arrivalsOf q slots)
-        ∙ ap (λ (l : List ℕ). getElem? l (k + n))
-          (append-assoc (w q) (valuesOf q (arriving (step .arrival))) (arrivalsOf q slots)))
+      ∙ nth-drop k n (front ++ arrivalsOf q slots)
+      ∙ ap (λ (l : List ℕ). getElem? l (k + n))
+      (append-assoc (w q) (valuesOf q (arriving (step .arrival))) (arrivalsOf q slots)))
     where
       k : ℕ
       k = asks q (step .request)
+
       n : ℕ
       n = requestsOf q (take t slots)
+
       front : List ℕ
       front = withArrival w (step .arrival) q
 
@@ -138,8 +142,8 @@ given-is-owed w [] f = refl
 given-is-owed w (step ∷ slots) f =
     ap (λ (o : Option Byte). o ∷ gives (leftWaiting w step) slots) (given-now w step slots (f .0) (step .request) refl)
     ∙ ap (λ (l : List (Option Byte)). owedFrom w (step ∷ slots) 0 (step .request) ∷ l)
-      (given-is-owed (leftWaiting w step) slots (f .1)
-        ∙ ap (tabulate (length slots)) (fun-ext (λ t. given-later w step slots (f .0) t (requestAt slots t))))
+    (given-is-owed (leftWaiting w step) slots (f .1)
+    ∙ ap (tabulate (length slots)) (fun-ext (λ t. given-later w step slots (f .0) t (requestAt slots t))))
 
 pub owed-from-nothing : (slots : List Step) (t : ℕ) (r : Option ℕ) → owedFrom (λ q. []) slots t r ≡ owedTo slots t r
 owed-from-nothing slots t none = refl
@@ -155,9 +159,14 @@ arrived-in-time w (step ∷ slots) f zero q e =
     now : List ℕ
     now = valuesOf q (arriving (step .arrival))
 arrived-in-time w (step ∷ slots) f (suc t) q e =
-    omega (arith, arrived-in-time (leftWaiting w step) slots (f .1) t q e, f .0 q
-      , length-drop (asks q (step .request)) (withArrival w (step .arrival) q), length-append (w q) now
-      , length-append now (arrivalsOf q (take (suc t) slots)))
+    omega (
+      arith,
+      arrived-in-time (leftWaiting w step) slots (f .1) t q e,
+      f .0 q,
+      length-drop (asks q (step .request)) (withArrival w (step .arrival) q),
+      length-append (w q) now,
+      length-append now (arrivalsOf q (take (suc t) slots)),
+    )
   where
     now : List ℕ
     now = valuesOf q (arriving (step .arrival))

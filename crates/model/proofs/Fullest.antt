@@ -1,15 +1,15 @@
--- The queue that step 4 writes is the one that the paper names: it has b tail bytes or more, no queue has more, and every
--- queue of a lower number has fewer. Where there is none, no queue has b.
-use mathlib.Core.Path.{_≡_, refl, ap, sym, subst}
-use mathlib.Core.Bool.{Bool, true, false}
+-- The queue that step 4 writes is the one that the paper names: it has b tail bytes or more, no queue has more, and
+-- every queue of a lower number has fewer. Where there is none, no queue has b.
+use mathlib.Core.Path.{_≡_, sym, subst}
+use mathlib.Core.Bool.{true, false}
 use mathlib.Core.Option.{Option, some, none}
-use Prim.Native.Nat.{ℕ, zero, suc, _+_, _<_, _≤_}
+use Prim.Native.Nat.{ℕ, zero, suc, _<_, _≤_}
 use native.Mathlib.Omega.{arith}
 use lib.Dec.{eqb, ltb, leb}
 use borrow.Author.Tests.{eqb-true, eqb-false, leb-true, leb-false, ltb-true, ltb-false}
 use Rattle.model.specs.Words.{choose}
 use Rattle.model.specs.Slot.{fuller, fullest}
-use Rattle.model.proofs.Words.{by-test, by-option, none-not-some, some-inj}
+use Rattle.model.proofs.Words.{by-test, none-not-some, some-inj}
 
 pub record IsFullest (b : ℕ) (bytes : ℕ → ℕ) (n q : ℕ) : Type 0 where
   pub below : q < n
@@ -34,29 +34,37 @@ module _ (b : ℕ) (bytes : ℕ → ℕ) (n : ℕ) where
   next o (found-none h) = by-test (leb b (bytes n)) yes-case no-case
     where
       yes-case : leb b (bytes n) ≡ true → Found b bytes (suc n) (choose (leb b (bytes n)) (some n) none)
-      yes-case t = rw t (found-queue {q = n} (record
-        { below = omega arith
-        ; has-block = leb-true b (bytes n) t
-        ; has-most = one-more (λ p. bytes p ≤ bytes n) n (λ p l. omega (arith, h p l, leb-true b (bytes n) t)) (omega arith)
-        ; lowest = λ p l. omega (arith, h p l, leb-true b (bytes n) t) }))
+      yes-case t = rw t (found-queue {q = n} (record {
+        below = omega arith;
+        has-block = leb-true b (bytes n) t;
+        has-most = one-more (λ p. bytes p ≤ bytes n) n (λ p l. omega (arith, h p l, leb-true b (bytes n) t))
+            (omega arith);
+        lowest = λ p l. omega (arith, h p l, leb-true b (bytes n) t);
+      }))
+
       no-case : leb b (bytes n) ≡ false → Found b bytes (suc n) (choose (leb b (bytes n)) (some n) none)
       no-case t = rw t (found-none (one-more (λ p. bytes p < b) n h (leb-false b (bytes n) t)))
   next o (found-queue {q = q} f) = by-test (ltb (bytes q) (bytes n)) yes-case no-case
     where
-      yes-case : ltb (bytes q) (bytes n) ≡ true → Found b bytes (suc n) (choose (ltb (bytes q) (bytes n)) (some n) (some q))
-      yes-case t = rw t (found-queue {q = n} (record
-        { below = omega arith
-        ; has-block = omega (arith, f .has-block, ltb-true (bytes q) (bytes n) t)
-        ; has-most =
+      yes-case : ltb (bytes q) (bytes n) ≡ true → Found b bytes (suc n)
+          (choose (ltb (bytes q) (bytes n)) (some n) (some q))
+      yes-case t = rw t (found-queue {q = n} (record {
+        below = omega arith;
+        has-block = omega (arith, f .has-block, ltb-true (bytes q) (bytes n) t);
+        has-most =
             one-more (λ p. bytes p ≤ bytes n) n
-            (λ p l. omega (arith, f .has-most p l, ltb-true (bytes q) (bytes n) t)) (omega arith)
-        ; lowest = λ p l. omega (arith, f .has-most p l, ltb-true (bytes q) (bytes n) t) }))
-      no-case : ltb (bytes q) (bytes n) ≡ false → Found b bytes (suc n) (choose (ltb (bytes q) (bytes n)) (some n) (some q))
-      no-case t = rw t (found-queue {q = q} (record
-        { below = omega (arith, f .below)
-        ; has-block = f .has-block
-        ; has-most = one-more (λ p. bytes p ≤ bytes q) n (f .has-most) (ltb-false (bytes q) (bytes n) t)
-        ; lowest = f .lowest }))
+            (λ p l. omega (arith, f .has-most p l, ltb-true (bytes q) (bytes n) t)) (omega arith);
+        lowest = λ p l. omega (arith, f .has-most p l, ltb-true (bytes q) (bytes n) t);
+      }))
+
+      no-case : ltb (bytes q) (bytes n) ≡ false → Found b bytes (suc n)
+          (choose (ltb (bytes q) (bytes n)) (some n) (some q))
+      no-case t = rw t (found-queue {q = q} (record {
+        below = omega (arith, f .below);
+        has-block = f .has-block;
+        has-most = one-more (λ p. bytes p ≤ bytes q) n (f .has-most) (ltb-false (bytes q) (bytes n) t);
+        lowest = f .lowest;
+      }))
 
 found : (b : ℕ) (bytes : ℕ → ℕ) (n : ℕ) → Found b bytes n (fullest b bytes n)
 found b bytes zero = found-none (λ p l. absurd (omega arith))

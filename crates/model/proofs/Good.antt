@@ -1,27 +1,31 @@
--- From a state that keeps the rules and the invariant, a slot is never refused with 8, 9 or 10, and leaves such a state.
-use mathlib.Core.Path.{_≡_, refl, ap, sym, _∙_, subst}
-use mathlib.Core.Bool.{Bool, true, false, not}
-use mathlib.Core.List.{List, [], _∷_, _++_}
+-- From a state that keeps the rules and the invariant, a slot is never refused with 8, 9 or 10, and leaves such a
+-- state.
+use mathlib.Core.Path.{_≡_, refl, sym, _∙_, subst}
+use mathlib.Core.Bool.{true, false, not}
+use mathlib.Core.List.{List}
 use mathlib.Core.Option.{Option, some, none}
-use Prim.Native.Nat.{ℕ, zero, suc, _+_, _-_, _*_, _<_, _≤_}
+use Prim.Native.Nat.{ℕ, suc, _+_, _-_, _≤_}
 use native.Mathlib.Omega.{arith}
-use lib.Dec.{eqb, ltb}
+use lib.Dec.{ltb}
 use lib.ListN.{length, length-append}
-use borrow.Author.Tests.{eqb-true, eqb-false, lt-leb, le-ltb}
-use Rattle.model.specs.Words.{choose, when, firstRefusal, All}
-use Rattle.model.specs.Sizes.{Sizes, Limits, sizeRules, accepts, span, lookahead, tailSize, headSize, storeBytes, full}
+use borrow.Author.Tests.{eqb-true, lt-leb, le-ltb}
+use Rattle.model.specs.Words.{choose, when}
+use Rattle.model.specs.Sizes.{Sizes, Limits, sizeRules, accepts, span, lookahead, tailSize, headSize}
+use Rattle.model.specs.Sizes.{storeBytes, full}
 use Rattle.model.specs.State.{Byte, State, fresh, tailBytes, headBytes, ringOf, keeps}
-use Rattle.model.specs.Slot.{Call, oldestCell, afterDelivery, afterRequest, moves, fullest, queueToWrite, afterWrite}
-use Rattle.model.specs.Slot.{refillQueue, queueToRead, blockAt, bytesFor, headRead, afterRead, afterPhase, joined, asked}
-use Rattle.model.specs.Slot.{wrote, wroteStore, refilled, arrivalUnknown, arrivalFull, requestUnknown, nothingToTake}
-use Rattle.model.specs.Slot.{leavesUncovered, tailFull, headFull, refusals, refusal, Answer, accept, slot}
+use Rattle.model.specs.Slot.{Call, afterDelivery, moves, fullest, queueToWrite, afterWrite, refillQueue}
+use Rattle.model.specs.Slot.{queueToRead, blockAt, bytesFor, headRead, afterRead, afterPhase, joined, asked}
+use Rattle.model.specs.Slot.{wrote, wroteStore, refilled, arrivalUnknown, arrivalFull, requestUnknown}
+use Rattle.model.specs.Slot.{nothingToTake, tailFull, headFull, refusal, Answer, accept, slot}
 use Rattle.model.proofs.Words.{by-test, none-not-some, between-facts, all-true-at, low-refusal, when-le}
 use Rattle.model.proofs.Bytes.{length-for}
 use Rattle.model.proofs.Rules.{Rules, Keeps, rules-fresh}
-use Rattle.model.proofs.Accepted.{Judged, Accepted, earlyRefusals, judged-facts, Outcome, was-refused, was-accepted, outcome}
-use Rattle.model.proofs.Kept.{Kept, rules-2, rules-3, rules-written, rules-refilled, block-whole, accept-kept}
-use Rattle.model.proofs.Invariant.{Invariant, invariant-fresh, invariant-delivered, invariant-arrived, invariant-asked}
-use Rattle.model.proofs.Invariant.{invariant-wrote, invariant-read, oldest-covered, head-bounded}
+use Rattle.model.proofs.Accepted.{Judged, earlyRefusals, judged-facts, Outcome, was-refused, was-accepted}
+use Rattle.model.proofs.Accepted.{outcome}
+use Rattle.model.proofs.Kept.{rules-2, rules-3, rules-written, rules-refilled, block-whole, accept-kept}
+use Rattle.model.proofs.Invariant.{Invariant, invariant-fresh, invariant-delivered, invariant-arrived}
+use Rattle.model.proofs.Invariant.{invariant-asked, invariant-wrote, invariant-read, oldest-covered}
+use Rattle.model.proofs.Invariant.{head-bounded}
 
 -- Accepted sizes are 1 or more. It is all that the theory uses of the limits.
 pub record Positive (s : Sizes) : Type 0 where
@@ -30,24 +34,26 @@ pub record Positive (s : Sizes) : Type 0 where
   pub k-positive : 1 ≤ s .K
 
 pub positive-sizes : (limits : Limits) (s : Sizes) → accepts limits s ≡ true → Positive s
-positive-sizes limits s e = record
-  { q-positive = between-facts 1 (s .Q) (limits .mostQueues) (all-true-at (sizeRules limits s) 0 e) .0
-  ; b-positive = between-facts 1 (s .b) (limits .mostBlockBytes) (all-true-at (sizeRules limits s) 1 e) .0
-  ; k-positive = between-facts 1 (s .K) (limits .mostRingBlocks) (all-true-at (sizeRules limits s) 2 e) .0 }
+positive-sizes limits s e = record {
+  q-positive = between-facts 1 (s .Q) (limits .mostQueues) (all-true-at (sizeRules limits s) 0 e) .0;
+  b-positive = between-facts 1 (s .b) (limits .mostBlockBytes) (all-true-at (sizeRules limits s) 1 e) .0;
+  k-positive = between-facts 1 (s .K) (limits .mostRingBlocks) (all-true-at (sizeRules limits s) 2 e) .0;
+}
 
 pub record Good (limits : Limits) (x : State) : Type 0 where
   pub kept : Keeps (full limits) x
   pub invariant : Invariant (x .phase) (x .phase) (x .phase) x
 
 pub keeps-fresh : (limits : Limits) (s : Sizes) → accepts limits s ≡ true → Keeps (full limits) (fresh (full limits) s)
-keeps-fresh limits s e = record
-  { sizes-ok = e
-  ; phase-ok = positive-sizes limits s e .b-positive
-  ; within = rules-fresh (full limits) s (positive-sizes limits s e .k-positive)
-  ; tail-fits = omega arith
-  ; head-fits = omega arith
-  ; tail-mark = (omega arith, omega arith)
-  ; head-mark = (omega arith, omega arith) }
+keeps-fresh limits s e = record {
+  sizes-ok = e;
+  phase-ok = positive-sizes limits s e .b-positive;
+  within = rules-fresh (full limits) s (positive-sizes limits s e .k-positive);
+  tail-fits = omega arith;
+  head-fits = omega arith;
+  tail-mark = (omega arith, omega arith);
+  head-mark = (omega arith, omega arith);
+}
 
 pub good-fresh : (limits : Limits) (s : Sizes) → accepts limits s ≡ true → Good limits (fresh (full limits) s)
 good-fresh limits s e = record { kept = keeps-fresh limits s e; invariant = invariant-fresh (full limits) s }
@@ -87,12 +93,16 @@ module _ (limits : Limits) (x : State) (store : List ℕ) (call : Call)
     (good : Good limits x) (j : Judged (full limits) x store call) where
   abbrev p : ℕ
   p = x .phase
+
   abbrev b : ℕ
   b = x .sizes .b
+
   abbrev y : State
   y = asked x call
+
   abbrev z : State
   z = wrote x call
+
   abbrev store′ : List ℕ
   store′ = wroteStore x store call
 
@@ -105,10 +115,11 @@ module _ (limits : Limits) (x : State) (store : List ℕ) (call : Call)
   invariant-3 : Invariant (suc p) (suc p) (suc p) y
   invariant-3 =
       invariant-asked p (joined x call) (call .request) (j .request-ok) b-positive
-      (subst (λ (n : ℕ). Rules n (joined x call)) (let e : lookahead (x .sizes) - 1 ≡ span (x .sizes) = omega arith in e)
-        (rules-2 (full limits) x store call cells-ok j))
+      (subst (λ (n : ℕ). Rules n (joined x call))
+      (let e : lookahead (x .sizes) - 1 ≡ span (x .sizes) = omega arith in e)
+      (rules-2 (full limits) x store call cells-ok j))
       (invariant-arrived p (afterDelivery x) (call .arrival)
-        (invariant-delivered p x (good .kept .phase-ok) (j .covered) (good .invariant)))
+      (invariant-delivered p x (good .kept .phase-ok) (j .covered) (good .invariant)))
 
   module _ (t : moves x ≡ true) where
     last-slot : suc p ≡ b
@@ -132,16 +143,22 @@ module _ (limits : Limits) (x : State) (store : List ℕ) (call : Call)
     where
       moving : (q : ℕ) → queueToRead z ≡ some q → moves x ≡ true
       moving q e = by-test (moves x) (λ t. t) (λ t. absurd (none-not-some q (sym (reads-none z t) ∙ e)))
+
       go : (o : Option ℕ) → queueToRead z ≡ o → headFull z o ≡ false
       go none e = refl
       go (some q) e =
           le-ltb (headSize (x .sizes)) (length (z .head) + b)
-          (omega (arith, length-append (z .head) (bytesFor q block), length-for q block
-            , block-whole (full limits) x store call cells-ok j q e
-            , subst (λ (o : Option ℕ). length (headRead o z store′) ≤ lookahead (x .sizes) + span (x .sizes)) e bounded))
+          (omega (
+            arith,
+            length-append (z .head) (bytesFor q block),
+            length-for q block,
+            block-whole (full limits) x store call cells-ok j q e,
+            subst (λ (o : Option ℕ). length (headRead o z store′) ≤ lookahead (x .sizes) + span (x .sizes)) e bounded,
+          ))
         where
           block : List ℕ
           block = blockAt (x .sizes) store′ q (ringOf (z .rings) q .first)
+
           bounded : length (refilled x store call .head) ≤ lookahead (x .sizes) + span (x .sizes)
           bounded =
               head-bounded (lookahead (x .sizes)) 0 0 0 (refilled x store call)
@@ -153,13 +170,14 @@ module _ (limits : Limits) (x : State) (store : List ℕ) (call : Call)
       by-test (moves x)
       (λ t. next-phase 0 (refilled x store call) (rw t) (invariant-moved t))
       (λ t. next-phase (suc p) (refilled x store call) (rw t (let e : p + 1 ≡ suc p = omega arith in e))
-          (read-none (suc p) (suc p) (suc p) z store′ (queueToRead z) (reads-none z t)
-            (wrote-none (suc p) (suc p) (suc p) y (queueToWrite y) (writes-none y t) invariant-3)))
+      (read-none (suc p) (suc p) (suc p) z store′ (queueToRead z) (reads-none z t)
+      (wrote-none (suc p) (suc p) (suc p) y (queueToWrite y) (writes-none y t) invariant-3)))
 
   pub accept-good : Good limits (accept x store call .state)
-  accept-good = record
-    { kept = accept-kept (full limits) x store call cells-ok (record { judged = j; head-room = no-10 }) .kept
-    ; invariant = invariant-next }
+  accept-good = record {
+    kept = accept-kept (full limits) x store call cells-ok (record { judged = j; head-room = no-10 }) .kept;
+    invariant = invariant-next;
+  }
 
 -- Every refusal of a slot on a good state is 7 or lower.
 module _ (limits : Limits) (x : State) (store : List ℕ) (call : Call) (good : Good limits x) where
@@ -170,16 +188,32 @@ module _ (limits : Limits) (x : State) (store : List ℕ) (call : Call) (good : 
 
   pub refusal-low : refusal (full limits) x store call ≤ 7
   refusal-low =
-      low-refusal 7 (earlyRefusals (full limits) x store call) (when (headFull (wrote x call) (queueToRead (wrote x call))) 10)
-      ( when-le 7 (not (keeps (full limits) x)) 3 (omega arith)
-      , (when-le 7 (ltb (length store) (storeBytes (x .sizes))) 2 (omega arith)
-      , (when-le 7 (arrivalUnknown x (call .arrival)) 4 (omega arith)
-      , (when-le 7 (arrivalFull x (call .arrival)) 5 (omega arith)
-      , (when-le 7 (requestUnknown x (call .request)) 6 (omega arith)
-      , (when-le 7 (nothingToTake x (call .arrival) (call .request)) 7 (omega arith)
-      , (rw (oldest-covered (x .phase) x (good .kept .phase-ok) (good .invariant)) (omega arith)
-      , (rw (no-9 (call .arrival)) (omega arith)
-      , tt))))))))
+      low-refusal 7 (earlyRefusals (full limits) x store call)
+      (when (headFull (wrote x call) (queueToRead (wrote x call))) 10) (
+        when-le 7 (not (keeps (full limits) x)) 3 (omega arith),
+        (
+          when-le 7 (ltb (length store) (storeBytes (x .sizes))) 2 (omega arith),
+          (
+            when-le 7 (arrivalUnknown x (call .arrival)) 4 (omega arith),
+            (
+              when-le 7 (arrivalFull x (call .arrival)) 5 (omega arith),
+              (
+                when-le 7 (requestUnknown x (call .request)) 6 (omega arith),
+                (
+                  when-le 7 (nothingToTake x (call .arrival) (call .request)) 7 (omega arith),
+                  (
+                    rw (oldest-covered (x .phase) x (good .kept .phase-ok) (good .invariant)) (omega arith),
+                    (
+                      rw (no-9 (call .arrival)) (omega arith),
+                      tt,
+                    ),
+                  ),
+                ),
+              ),
+            ),
+          ),
+        ),
+      )
       (λ e. rw (no-10 limits x store call good (judged-facts (full limits) x store call e)))
 
 -- A slot on a good state: its number, and the state that it leaves.

@@ -1,33 +1,34 @@
--- The invariant of a list from a fresh state, through each step of a slot. A slot that passes lets one more cell be Owed,
--- one more byte wait in the tail, and every order come one cell nearer; a move takes b of each away.
-use mathlib.Core.Path.{_≡_, refl, ap, sym, _∙_, subst}
-use mathlib.Core.Bool.{Bool, true, false}
+-- The invariant of a list from a fresh state, through each step of a slot. A slot that passes lets one more cell be
+-- Owed, one more byte wait in the tail, and every order come one cell nearer; a move takes b of each away.
+use mathlib.Core.Path.{_≡_, refl, ap, _∙_}
+use mathlib.Core.Bool.{false}
 use mathlib.Core.List.{List, [], _∷_, _++_}
 use mathlib.Core.Option.{Option, some, none}
-use Prim.Native.Nat.{ℕ, zero, suc, _+_, _-_, _*_, _<_, _≤_}
+use Prim.Native.Nat.{ℕ, suc, _+_, _-_, _<_, _≤_}
 use native.Mathlib.Omega.{arith}
 use lib.Dec.{eqb}
 use lib.ListN.{length, drop, length-append}
 use borrow.Author.Tests.{eqb-true, eqb-false, ne-eqb}
 use Rattle.model.specs.Words.{choose}
 use Rattle.model.specs.Sizes.{Sizes, Design, span}
-use Rattle.model.specs.State.{Byte, Cell, empty, held, owed, State, fresh, countOf, owes, owedOf, tailBytes, headBytes}
+use Rattle.model.specs.State.{Byte, Cell, empty, held, owed, State, fresh, countOf, tailBytes, headBytes}
 use Rattle.model.specs.State.{owedCells, ringOf}
-use Rattle.model.specs.Slot.{without, oldestCell, headWithout, afterDelivery, arriving, afterArrival, isOwed, heldCell}
-use Rattle.model.specs.Slot.{oldestOf, youngestCell, tailLeft, afterRequest, fullest, afterWrite, refillQueue, bytesFor}
-use Rattle.model.specs.Slot.{blockAt, headRead, afterRead, leavesUncovered}
+use Rattle.model.specs.Slot.{oldestCell, headWithout, afterDelivery, arriving, afterArrival, isOwed, heldCell}
+use Rattle.model.specs.Slot.{oldestOf, youngestCell, afterRequest, fullest, afterWrite, refillQueue, bytesFor}
+use Rattle.model.specs.Slot.{blockAt, afterRead, leavesUncovered}
 use Rattle.model.proofs.Words.{by-test, positive}
-use Rattle.model.proofs.Sums.{sum, sum-le, sum-le-add, sum-bound}
+use Rattle.model.proofs.Sums.{sum-le, sum-le-add, sum-bound}
 use Rattle.model.proofs.Bytes.{count-refilled, length-for, length-without, sum-counts}
 use Rattle.model.proofs.Cells.{allOwed, isOwing, owed-append, all-owed-append, all-owed-length, sum-owed}
 use Rattle.model.proofs.Cells.{all-owed-empties}
 use Rattle.model.proofs.Fullest.{fullest-some, fullest-none}
 use Rattle.model.proofs.Scan.{scan-some, scan-none}
 use Rattle.model.proofs.Rules.{Rules, owed-oldest, count-head-without, length-tail-left}
-use Rattle.model.proofs.Walk.{Walk, at-end, at-empty, at-held, at-covered, at-order, walk-fresh, walk-delivered}
-use Rattle.model.proofs.Walk.{walk-youngest-idle, walk-youngest-owed, walk-no-order, walk-refilled}
+use Rattle.model.proofs.Walk.{Walk, at-covered, at-order, walk-fresh, walk-delivered, walk-youngest-idle}
+use Rattle.model.proofs.Walk.{walk-youngest-owed, walk-no-order, walk-refilled}
 
--- Each of the three counts is the number of slots since the last move, this one counted from the step on that uses it up.
+-- Each of the three counts is the number of slots since the last move, this one counted from the step on that uses it
+-- up.
 pub record Invariant (walkSlots owedSlots tailSlots : ℕ) (x : State) : Type 0 where
   pub covered : (q : ℕ) → headBytes x q ≤ owedCells x q + (x .sizes .b - 1)
   pub owed-few : allOwed (x .cells) ≤ length (x .head) + owedSlots
@@ -35,11 +36,12 @@ pub record Invariant (walkSlots owedSlots tailSlots : ℕ) (x : State) : Type 0 
   pub tail-light : length (x .tail) ≤ span (x .sizes) + tailSlots
 
 pub invariant-fresh : (design : Design) (s : Sizes) → Invariant 0 0 0 (fresh design s)
-invariant-fresh design s = record
-  { covered = λ q. omega arith
-  ; owed-few = omega (arith, all-owed-empties (design .cellCount s))
-  ; orders-late = walk-fresh (s .b) 0 (design .cellCount s) (λ q. 0)
-  ; tail-light = omega arith }
+invariant-fresh design s = record {
+  covered = λ q. omega arith;
+  owed-few = omega (arith, all-owed-empties (design .cellCount s));
+  orders-late = walk-fresh (s .b) 0 (design .cellCount s) (λ q. 0);
+  tail-light = omega arith;
+}
 
 -- 1. The oldest cell leaves, covered.
 owed-all-oldest : (cells : List Cell) → allOwed cells ≡ isOwing (oldestCell cells) + allOwed (drop 1 cells)
@@ -54,12 +56,17 @@ length-delivered (owed q) x e = length-without 1 q (x .head) (positive (headByte
 
 pub invariant-delivered : (p : ℕ) (x : State) → p < x .sizes .b → leavesUncovered (oldestCell (x .cells)) x ≡ false
     → Invariant p p p x → Invariant (suc p) p p (afterDelivery x)
-invariant-delivered p x l e v = record
-  { covered = λ q. omega (arith, v .covered q, owed-oldest (x .cells) q
-      , count-head-without (oldestCell (x .cells)) (x .head) q)
-  ; owed-few = omega (arith, v .owed-few, owed-all-oldest (x .cells), length-delivered (oldestCell (x .cells)) x e)
-  ; orders-late = walk-delivered (x .sizes .b) p (x .head) (x .cells) l (v .orders-late)
-  ; tail-light = v .tail-light }
+invariant-delivered p x l e v = record {
+  covered = λ q. omega (
+    arith,
+    v .covered q,
+    owed-oldest (x .cells) q,
+    count-head-without (oldestCell (x .cells)) (x .head) q,
+  );
+  owed-few = omega (arith, v .owed-few, owed-all-oldest (x .cells), length-delivered (oldestCell (x .cells)) x e);
+  orders-late = walk-delivered (x .sizes .b) p (x .head) (x .cells) l (v .orders-late);
+  tail-light = v .tail-light;
+}
 
 -- 2. The arriving byte joins the tail.
 length-arriving : (arrival : Option Byte) → length (arriving arrival) ≤ 1
@@ -68,11 +75,12 @@ length-arriving (some y) = omega arith
 
 pub invariant-arrived : (p : ℕ) (x : State) (arrival : Option Byte) → Invariant (suc p) p p x
     → Invariant (suc p) p (suc p) (afterArrival arrival x)
-invariant-arrived p x arrival v = record
-  { covered = v .covered
-  ; owed-few = v .owed-few
-  ; orders-late = v .orders-late
-  ; tail-light = omega (arith, v .tail-light, length-append (x .tail) (arriving arrival), length-arriving arrival) }
+invariant-arrived p x arrival v = record {
+  covered = v .covered;
+  owed-few = v .owed-few;
+  orders-late = v .orders-late;
+  tail-light = omega (arith, v .tail-light, length-append (x .tail) (arriving arrival), length-arriving arrival);
+}
 
 -- 3. The request takes the youngest cell.
 isOwing-held : (q : ℕ) (o : Option ℕ) → isOwing (heldCell q o) ≡ 0
@@ -90,65 +98,95 @@ walk-asked : (p : ℕ) (x : State) (request : Option ℕ) → ((q : ℕ) → req
 walk-asked p x none f pos r v = walk-youngest-idle empty refl (v .orders-late)
 walk-asked p x (some q) f pos r v =
     by-test (isOwed x q)
-    (λ t. rw t (walk-youngest-owed (x .sizes .Q) (x .sizes .b) (x .sizes .b - 1) (omega arith) q (f q refl) (r .cells-below)
-        (v .covered)
-        (omega (arith, v .owed-few, r .cells-long, sum-counts (x .sizes .Q) (x .head) (r .head-below)))
-        (v .orders-late)))
+    (λ t. rw t (walk-youngest-owed (x .sizes .Q) (x .sizes .b) (x .sizes .b - 1) (omega arith) q (f q refl)
+    (r .cells-below)
+    (v .covered)
+    (omega (arith, v .owed-few, r .cells-long, sum-counts (x .sizes .Q) (x .head) (r .head-below)))
+    (v .orders-late)))
     (λ t. rw t (walk-youngest-idle (heldCell q (oldestOf q (x .tail))) (isOwing-held q (oldestOf q (x .tail)))
-        (v .orders-late)))
+    (v .orders-late)))
 
 pub invariant-asked : (p : ℕ) (x : State) (request : Option ℕ) → ((q : ℕ) → request ≡ some q → q < x .sizes .Q)
     → 1 ≤ x .sizes .b → Rules (span (x .sizes)) x
     → Invariant (suc p) p (suc p) x → Invariant (suc p) (suc p) (suc p) (afterRequest request x)
-invariant-asked p x request f pos r v = record
-  { covered = λ q. omega (arith, v .covered q, owed-append q (x .cells) (youngestCell x request ∷ []))
-  ; owed-few = omega (arith, v .owed-few, all-owed-append (x .cells) (youngestCell x request ∷ [])
-      , isOwing-le (youngestCell x request))
-  ; orders-late = walk-asked p x request f pos r v
-  ; tail-light = omega (arith, v .tail-light, length-tail-left x request) }
+invariant-asked p x request f pos r v = record {
+  covered = λ q. omega (arith, v .covered q, owed-append q (x .cells) (youngestCell x request ∷ []));
+  owed-few = omega (
+    arith,
+    v .owed-few,
+    all-owed-append (x .cells) (youngestCell x request ∷ []),
+    isOwing-le (youngestCell x request),
+  );
+  orders-late = walk-asked p x request f pos r v;
+  tail-light = omega (arith, v .tail-light, length-tail-left x request);
+}
 
 -- 4. The write: b bytes go, or no queue has b and so each has b - 1 at most.
 pub invariant-wrote : (n : ℕ) (x : State) (o : Option ℕ) → fullest (x .sizes .b) (tailBytes x) (x .sizes .Q) ≡ o
     → Rules n x → Invariant (x .sizes .b) (x .sizes .b) (x .sizes .b) x
     → Invariant (x .sizes .b) (x .sizes .b) 0 (afterWrite o x)
-invariant-wrote n x none e r v = record
-  { covered = v .covered
-  ; owed-few = v .owed-few
-  ; orders-late = v .orders-late
-  ; tail-light = omega (arith, sum-counts (x .sizes .Q) (x .tail) (r .tail-below)
-      , sum-bound (x .sizes .Q) (x .sizes .b - 1) (tailBytes x)
-          (λ q l. omega (arith, fullest-none (x .sizes .b) (tailBytes x) (x .sizes .Q) e q l))) }
-invariant-wrote n x (some q) e r v = record
-  { covered = v .covered
-  ; owed-few = v .owed-few
-  ; orders-late = v .orders-late
-  ; tail-light = omega (arith, v .tail-light
-      , length-without (x .sizes .b) q (x .tail) (fullest-some (x .sizes .b) (tailBytes x) (x .sizes .Q) q e .has-block)) }
+invariant-wrote n x none e r v = record {
+  covered = v .covered;
+  owed-few = v .owed-few;
+  orders-late = v .orders-late;
+  tail-light = omega (
+    arith,
+    sum-counts (x .sizes .Q) (x .tail) (r .tail-below),
+    sum-bound (x .sizes .Q) (x .sizes .b - 1) (tailBytes x)
+        (λ q l. omega (arith, fullest-none (x .sizes .b) (tailBytes x) (x .sizes .Q) e q l)),
+  );
+}
+invariant-wrote n x (some q) e r v = record {
+  covered = v .covered;
+  owed-few = v .owed-few;
+  orders-late = v .orders-late;
+  tail-light = omega (
+    arith,
+    v .tail-light,
+    length-without (x .sizes .b) q (x .tail) (fullest-some (x .sizes .b) (tailBytes x) (x .sizes .Q) q e .has-block),
+  );
+}
 
 -- 4. The read: the first order's queue gets b bytes, or there is no order and every Owed cell is covered.
 pub invariant-read : (n : ℕ) (x : State) (store : List ℕ) (o : Option ℕ) → refillQueue (headBytes x) (x .cells) ≡ o
     → ((q : ℕ) → o ≡ some q → length (blockAt (x .sizes) store q (ringOf (x .rings) q .first)) ≡ x .sizes .b)
     → 1 ≤ x .sizes .b → Rules n x → Invariant (x .sizes .b) (x .sizes .b) 0 x
     → Invariant 0 0 0 (afterRead o x store)
-invariant-read n x store none e whole pos r v = record
-  { covered = v .covered
-  ; owed-few = omega (arith, sum-counts (x .sizes .Q) (x .head) (r .head-below), sum-owed (x .sizes .Q) (x .cells) (r .cells-below)
-      , sum-le (x .sizes .Q) (owedCells x) (headBytes x) (λ q l. scan-none (headBytes x) (x .cells) e q))
-  ; orders-late = walk-no-order 0 e (v .orders-late)
-  ; tail-light = v .tail-light }
-invariant-read n x store (some q) e whole pos r v = record
-  { covered = λ p. by-test (eqb q p)
-      (λ t. omega (arith, pos, rw t at (more p), critical, ap (headBytes x) (eqb-true q p t), ap (owedCells x) (eqb-true q p t)))
-      (λ t. omega (arith, v .covered p, rw t at (more p)))
-  ; owed-few = omega (arith, v .owed-few, length-append (x .head) (bytesFor q block), length-for q block, whole q refl)
-  ; orders-late = walk-refilled (x .sizes .b) pos q 0 (λ p. countOf p (x .head ++ bytesFor q block)) (omega arith) more e
-      (v .orders-late)
-  ; tail-light = v .tail-light }
+invariant-read n x store none e whole pos r v = record {
+  covered = v .covered;
+  owed-few = omega (
+    arith,
+    sum-counts (x .sizes .Q) (x .head) (r .head-below),
+    sum-owed (x .sizes .Q) (x .cells) (r .cells-below),
+    sum-le (x .sizes .Q) (owedCells x) (headBytes x) (λ q l. scan-none (headBytes x) (x .cells) e q),
+  );
+  orders-late = walk-no-order 0 e (v .orders-late);
+  tail-light = v .tail-light;
+}
+invariant-read n x store (some q) e whole pos r v = record {
+  covered = λ p. by-test (eqb q p)
+      (λ t. omega (
+        arith,
+        pos,
+        rw t at (more p),
+        critical,
+        ap (headBytes x) (eqb-true q p t),
+        ap (owedCells x)
+            (eqb-true q p t),
+      ))
+      (λ t. omega (arith, v .covered p, rw t at (more p)));
+  owed-few = omega (arith, v .owed-few, length-append (x .head) (bytesFor q block), length-for q block, whole q refl);
+  orders-late = walk-refilled (x .sizes .b) pos q 0 (λ p. countOf p (x .head ++ bytesFor q block)) (omega arith) more e
+      (v .orders-late);
+  tail-light = v .tail-light;
+}
   where
     block : List ℕ
     block = blockAt (x .sizes) store q (ringOf (x .rings) q .first)
+
     critical : headBytes x q < owedCells x q
     critical = scan-some (headBytes x) (x .cells) q e
+
     more : (p : ℕ) → countOf p (x .head ++ bytesFor q block) ≡ headBytes x p + choose (eqb q p) (x .sizes .b) 0
     more p = count-refilled q p (x .head) block ∙ ap (λ (n : ℕ). headBytes x p + choose (eqb q p) n 0) (whole q refl)
 
@@ -167,6 +205,11 @@ oldest-covered p x l v = go (x .cells) (v .orders-late)
 -- The head holds at most the Owed cells and b - 1 for each queue.
 pub head-bounded : (n i j k : ℕ) (x : State) → Rules n x → Invariant i j k x → length (x .head) ≤ n + span (x .sizes)
 head-bounded n i j k x r v =
-    omega (arith, sum-counts (x .sizes .Q) (x .head) (r .head-below), sum-owed (x .sizes .Q) (x .cells) (r .cells-below)
-      , all-owed-length (x .cells), r .cells-long
-      , sum-le-add (x .sizes .Q) (x .sizes .b - 1) (headBytes x) (owedCells x) (λ q l. v .covered q))
+    omega (
+      arith,
+      sum-counts (x .sizes .Q) (x .head) (r .head-below),
+      sum-owed (x .sizes .Q) (x .cells) (r .cells-below),
+      all-owed-length (x .cells),
+      r .cells-long,
+      sum-le-add (x .sizes .Q) (x .sizes .b - 1) (headBytes x) (owedCells x) (λ q l. v .covered q),
+    )

@@ -1,28 +1,29 @@
 -- An accepted slot keeps the rules of the state and the store's length, and changes no byte outside the block that it
--- writes. It rests on the refusals alone, so it holds from every state that keeps the rules and for any number of cells.
+-- writes. It rests on the refusals alone, so it holds from every state that keeps the rules and for any number of
+-- cells.
 use mathlib.Core.Path.{_≡_, refl, ap, sym, _∙_, subst}
-use mathlib.Core.Bool.{Bool, true, false}
+use mathlib.Core.Bool.{false}
 use mathlib.Core.List.{List, [], _∷_, _++_}
 use mathlib.Core.Option.{Option, some, none}
-use Prim.Native.Nat.{ℕ, zero, suc, _+_, _-_, _*_, _%_, _<_, _≤_, max}
+use Prim.Native.Nat.{ℕ, suc, _+_, _-_, _<_, _≤_}
 use native.Mathlib.Omega.{arith}
 use native.Mathlib.Nat.{mod-lt}
-use lib.Dec.{eqb, ltb, leb}
+use lib.Dec.{ltb}
 use lib.ListN.{length, take, drop, getD, length-append, length-take, length-drop, List·getD-append}
 use lib.Seq.{getD-append-add, getD-take, getD-drop}
-use borrow.Author.Tests.{eqb-true, eqb-false, ltb-true, ltb-false}
+use borrow.Author.Tests.{eqb-false, ltb-true, ltb-false}
 use Rattle.model.specs.Words.{choose}
-use Rattle.model.specs.Sizes.{Sizes, Design, tailSize, headSize, storeBytes, blockPlace}
-use Rattle.model.specs.State.{Byte, Cell, empty, held, owed, State, valuesOf, countOf, tailBytes, headBytes, blocks, ringOf}
-use Rattle.model.specs.Slot.{Call, without, oldestCell, headWithout, afterDelivery, arriving, afterArrival, tailLeft, isOwed}
-use Rattle.model.specs.Slot.{afterRequest, moves, fullest, queueToWrite, nextBlock, placed, tailWritten, storeWritten}
-use Rattle.model.specs.Slot.{refillQueue, queueToRead, blockAt, bytesFor, headRead, afterRead, afterPhase, joined, asked}
-use Rattle.model.specs.Slot.{wrote, wroteStore, refilled, headFull, Answer, accept, refuse, slot}
-use Rattle.model.proofs.Words.{by-test, by-option, none-not-some}
+use Rattle.model.specs.Sizes.{Design, tailSize, headSize, storeBytes, blockPlace}
+use Rattle.model.specs.State.{Byte, Cell, empty, held, owed, State, valuesOf, tailBytes, headBytes, ringOf}
+use Rattle.model.specs.Slot.{Call, oldestCell, headWithout, afterDelivery, arriving, moves, queueToWrite}
+use Rattle.model.specs.Slot.{nextBlock, placed, tailWritten, storeWritten, refillQueue, queueToRead, blockAt}
+use Rattle.model.specs.Slot.{bytesFor, headRead, joined, asked, wrote, wroteStore, refilled, headFull, Answer}
+use Rattle.model.specs.Slot.{accept, slot}
+use Rattle.model.proofs.Words.{by-test, none-not-some}
 use Rattle.model.proofs.Bytes.{length-for, length-without-le}
 use Rattle.model.proofs.Fullest.{IsFullest, fullest-some}
 use Rattle.model.proofs.Rings.{place-fits, block-length}
-use Rattle.model.proofs.Rules.{Rules, Keeps, ArrivalTaken, WriteTaken, ReadTaken, rules-delivered, rules-arrived}
+use Rattle.model.proofs.Rules.{Rules, Keeps, WriteTaken, ReadTaken, rules-delivered, rules-arrived}
 use Rattle.model.proofs.Rules.{rules-asked, rules-wrote, length-tail-left, scan-taken, rules-read, rules-phase}
 use Rattle.model.proofs.Accepted.{Judged, Accepted, Outcome, was-refused, was-accepted, outcome}
 
@@ -30,9 +31,13 @@ use Rattle.model.proofs.Accepted.{Judged, Accepted, Outcome, was-refuse
 pub length-placed : (place : ℕ) (values store : List ℕ) → place + length values ≤ length store
     → length (placed place values store) ≡ length store
 length-placed place values store h =
-    omega (arith, length-append (take place store) (values ++ drop (place + length values) store)
-      , length-append values (drop (place + length values) store), length-take place store
-      , length-drop (place + length values) store)
+    omega (
+      arith,
+      length-append (take place store) (values ++ drop (place + length values) store),
+      length-append values (drop (place + length values) store),
+      length-take place store,
+      length-drop (place + length values) store,
+    )
 
 pub placed-outside : (place : ℕ) (values store : List ℕ) → place + length values ≤ length store
     → (i : ℕ) → ((place ≤ i) × (i < place + length values) → ⊥)
@@ -40,22 +45,27 @@ pub placed-outside : (place : ℕ) (values store : List ℕ) → place + length 
 placed-outside place values store h i out =
     by-test (ltb i place)
     (λ t. List·getD-append front (values ++ back) 0 i (omega (arith, front-long, ltb-true i place t))
-        ∙ getD-take place store i 0 (ltb-true i place t))
+    ∙ getD-take place store i 0 (ltb-true i place t))
     (λ t. past (i - (place + length values)) (split (ltb-false i place t)))
   where
     front : List ℕ
     front = take place store
+
     back : List ℕ
     back = drop (place + length values) store
+
     front-long : length front ≡ place
     front-long = omega (arith, length-take place store)
+
     split : place ≤ i → i ≡ place + length values + (i - (place + length values))
     split l =
         by-test (ltb i (place + length values))
         (λ t. absurd (out (l, ltb-true i (place + length values) t)))
         (λ t. omega (arith, ltb-false i (place + length values) t))
+
     at-past : (k : ℕ) → i ≡ place + length values + k → i ≡ length front + (length values + k)
     at-past k e = omega (arith, front-long)
+
     past : (k : ℕ) → i ≡ place + length values + k → getD (placed place values store) i 0 ≡ getD store i 0
     past k e =
         ap (λ (j : ℕ). getD (placed place values store) j 0) (at-past k e)
@@ -86,8 +96,8 @@ pub write-taken : (y : State) → WriteTaken y (queueToWrite y)
 write-taken y q e =
     by-test (moves y)
     (λ t. let f : IsFullest (y .sizes .b) (tailBytes y) (y .sizes .Q) q
-                = fullest-some (y .sizes .b) (tailBytes y) (y .sizes .Q) q (rw t at e) in
-        (f .below, f .has-block))
+    = fullest-some (y .sizes .b) (tailBytes y) (y .sizes .Q) q (rw t at e) in
+    (f .below, f .has-block))
     (λ t. absurd (none-not-some q (rw t at e)))
 
 pub read-scan : (z : State) (q : ℕ) → queueToRead z ≡ some q → refillQueue (headBytes z) (z .cells) ≡ some q
@@ -105,9 +115,13 @@ pub store-length : (n : ℕ) (y : State) (o : Option ℕ) (store : List ℕ) →
 store-length n y none store f v h = refl
 store-length n y (some q) store f v h =
     length-placed (blockPlace (y .sizes) q (nextBlock y q)) (take (y .sizes .b) (valuesOf q (y .tail))) store
-    (omega (arith, length-take (y .sizes .b) (valuesOf q (y .tail)), f q refl .1
-      , place-fits (y .sizes .Q) (y .sizes .K) (y .sizes .b) q (nextBlock y q) (f q refl .0)
-          (mod-lt (ringOf (y .rings) q .first + ringOf (y .rings) q .count) (omega (arith, v .firsts q (f q refl .0))))))
+    (omega (
+      arith,
+      length-take (y .sizes .b) (valuesOf q (y .tail)),
+      f q refl .1,
+      place-fits (y .sizes .Q) (y .sizes .K) (y .sizes .b) q (nextBlock y q) (f q refl .0)
+          (mod-lt (ringOf (y .rings) q .first + ringOf (y .rings) q .count) (omega (arith, v .firsts q (f q refl .0)))),
+    ))
 
 -- The rules along a slot: after each step, with n cells and one fewer between steps 1 and 3.
 module _ (design : Design) (x : State) (store : List ℕ) (call : Call)
@@ -129,7 +143,8 @@ module _ (design : Design) (x : State) (store : List ℕ) (call : Call)
       (rules-asked (cellsFull - 1) (joined x call) (call .request) (j .request-ok) rules-2)
 
   pub rules-written : Rules cellsFull (wrote x call)
-  rules-written = rules-wrote cellsFull (asked x call) (queueToWrite (asked x call)) (write-taken (asked x call)) rules-3
+  rules-written = rules-wrote cellsFull (asked x call) (queueToWrite (asked x call))
+      (write-taken (asked x call)) rules-3
 
   pub same-length : length (wroteStore x store call) ≡ length store
   same-length =
@@ -161,8 +176,13 @@ head-read-long : (z : State) (store : List ℕ) (o : Option ℕ)
     → length (headRead o z store) ≤ headSize (z .sizes)
 head-read-long z store none f e h = h
 head-read-long z store (some q) f e h =
-    omega (arith, ltb-false (headSize (z .sizes)) (length (z .head) + z .sizes .b) e, length-append (z .head) (bytesFor q block)
-      , length-for q block, f q refl)
+    omega (
+      arith,
+      ltb-false (headSize (z .sizes)) (length (z .head) + z .sizes .b) e,
+      length-append (z .head) (bytesFor q block),
+      length-for q block,
+      f q refl,
+    )
   where
     block : List ℕ
     block = blockAt (z .sizes) store q (ringOf (z .rings) q .first)
@@ -182,27 +202,35 @@ pub record Kept (design : Design) (x : State) (store : List ℕ) (a : Answer) : 
 module _ (design : Design) (x : State) (store : List ℕ) (call : Call)
     (cells-ok : 1 ≤ design .cellCount (x .sizes)) where
   pub accept-kept : Accepted design x store call → Kept design x store (accept x store call)
-  accept-kept a = record
-    { kept = record
-        { sizes-ok = j .kept .sizes-ok
-        ; phase-ok = next-phase x (j .kept .phase-ok)
-        ; within = rules-phase (design .cellCount (x .sizes)) (refilled x store call)
-            (rules-refilled design x store call cells-ok j)
-        ; tail-fits = omega (arith, tail-low, tail-joined)
-        ; head-fits = head-fits′
-        ; tail-mark = (omega (arith, tail-low), omega (arith, tail-joined, j .kept .tail-mark))
-        ; head-mark = (omega arith, omega (arith, head-fits′, j .kept .head-mark)) }
-    ; same-sizes = refl
-    ; same-length = same-length design x store call cells-ok j }
+  accept-kept a = record {
+    kept = record {
+      sizes-ok = j .kept .sizes-ok;
+      phase-ok = next-phase x (j .kept .phase-ok);
+      within = rules-phase (design .cellCount (x .sizes)) (refilled x store call)
+          (rules-refilled design x store call cells-ok j);
+      tail-fits = omega (arith, tail-low, tail-joined);
+      head-fits = head-fits′;
+      tail-mark = (omega (arith, tail-low), omega (arith, tail-joined, j .kept .tail-mark));
+      head-mark = (omega arith, omega (arith, head-fits′, j .kept .head-mark));
+    };
+    same-sizes = refl;
+    same-length = same-length design x store call cells-ok j;
+  }
     where
       j : Judged design x store call
       j = a .judged
+
       tail-joined : length (joined x call .tail) ≤ tailSize (x .sizes)
       tail-joined = length-joined x (call .arrival) (j .kept .tail-fits) (j .tail-room)
+
       tail-low : length (wrote x call .tail) ≤ length (joined x call .tail)
       tail-low =
-          omega (arith, length-tail-written (asked x call) (queueToWrite (asked x call))
-            , length-tail-left (joined x call) (call .request))
+          omega (
+            arith,
+            length-tail-written (asked x call) (queueToWrite (asked x call)),
+            length-tail-left (joined x call) (call .request),
+          )
+
       head-fits′ : length (refilled x store call .head) ≤ headSize (x .sizes)
       head-fits′ =
           head-read-long (wrote x call) (wroteStore x store call) (queueToRead (wrote x call))
@@ -222,7 +250,8 @@ pub record StoreElsewhere (x : State) (store : List ℕ) (a : Answer) : Type 0 w
   pub not-written : a .written ≡ none → a .store ≡ store
   pub outside :
       (q : ℕ) → a .written ≡ some q
-      → (i : ℕ) → ((blockPlace (x .sizes) q (nextBlock x q) ≤ i) × (i < blockPlace (x .sizes) q (nextBlock x q) + x .sizes .b) → ⊥)
+      → (i : ℕ) → ((blockPlace (x .sizes) q (nextBlock x q) ≤ i) ×
+      (i < blockPlace (x .sizes) q (nextBlock x q) + x .sizes .b) → ⊥)
       → getD (a .store) i 0 ≡ getD store i 0
 
 module _ (design : Design) (x : State) (store : List ℕ) (call : Call)
@@ -230,19 +259,27 @@ module _ (design : Design) (x : State) (store : List ℕ) (call : Call)
   written-outside : (y : State) (o : Option ℕ) → WriteTaken y o → Rules (design .cellCount (x .sizes)) y
       → storeBytes (y .sizes) ≤ length store
       → (q : ℕ) → o ≡ some q
-      → (i : ℕ) → ((blockPlace (y .sizes) q (nextBlock y q) ≤ i) × (i < blockPlace (y .sizes) q (nextBlock y q) + y .sizes .b) → ⊥)
+      → (i : ℕ) → ((blockPlace (y .sizes) q (nextBlock y q) ≤ i) ×
+      (i < blockPlace (y .sizes) q (nextBlock y q) + y .sizes .b) → ⊥)
       → getD (storeWritten o y store) i 0 ≡ getD store i 0
   written-outside y o f v h q e i out =
       ap (λ (p : Option ℕ). getD (storeWritten p y store) i 0) e
       ∙ placed-outside place values store
-        (omega (arith, size, h, place-fits (y .sizes .Q) (y .sizes .K) (y .sizes .b) q (nextBlock y q) (f q e .0)
-          (mod-lt (ringOf (y .rings) q .first + ringOf (y .rings) q .count) (omega (arith, v .firsts q (f q e .0))))))
-        i (λ k. out (k .0, omega (arith, size, k .1)))
+      (omega (
+        arith,
+        size,
+        h,
+        place-fits (y .sizes .Q) (y .sizes .K) (y .sizes .b) q (nextBlock y q) (f q e .0)
+            (mod-lt (ringOf (y .rings) q .first + ringOf (y .rings) q .count) (omega (arith, v .firsts q (f q e .0)))),
+      ))
+      i (λ k. out (k .0, omega (arith, size, k .1)))
     where
       place : ℕ
       place = blockPlace (y .sizes) q (nextBlock y q)
+
       values : List ℕ
       values = take (y .sizes .b) (valuesOf q (y .tail))
+
       size : length values ≡ y .sizes .b
       size = omega (arith, length-take (y .sizes .b) (valuesOf q (y .tail)), f q e .1)
 
@@ -251,7 +288,8 @@ module _ (design : Design) (x : State) (store : List ℕ) (call : Call)
     where
       go : (a : Answer) → Outcome design x store call a → StoreElsewhere x store a
       go a (was-refused n e) = record { not-written = λ w. refl; outside = λ q w i out. refl }
-      go a (was-accepted f) = record
-        { not-written = λ w. ap (λ (o : Option ℕ). storeWritten o (asked x call) store) w
-        ; outside = written-outside (asked x call) (queueToWrite (asked x call)) (write-taken (asked x call))
-            (rules-3 design x store call cells-ok (f .judged)) (f .judged .store-long) }
+      go a (was-accepted f) = record {
+        not-written = λ w. ap (λ (o : Option ℕ). storeWritten o (asked x call) store) w;
+        outside = written-outside (asked x call) (queueToWrite (asked x call)) (write-taken (asked x call))
+            (rules-3 design x store call cells-ok (f .judged)) (f .judged .store-long);
+      }

@@ -1,17 +1,16 @@
--- The walk with credits is the paper's scan: it stops at the first Owed cell that its queue's head bytes do not cover,
--- the Owed cells of the queue before it counted. It stops at a queue exactly where some queue is critical.
-use mathlib.Core.Path.{_≡_, refl, ap, sym, _∙_, fun-ext, subst}
-use mathlib.Core.Bool.{Bool, true, false}
+-- The walk with credits is the paper's scan: it stops at the first Owed cell that its queue's head bytes do not
+-- cover, the Owed cells of the queue before it counted. It stops at a queue exactly where some queue is critical.
+use mathlib.Core.Path.{_≡_, refl, ap, sym, _∙_, fun-ext}
 use mathlib.Core.List.{List, [], _∷_, _++_}
 use mathlib.Core.Option.{Option, some, none}
-use Prim.Native.Nat.{ℕ, zero, suc, _+_, _-_, _*_, _<_, _≤_}
+use Prim.Native.Nat.{ℕ, _+_, _-_, _<_, _≤_}
 use native.Mathlib.Omega.{arith}
-use lib.Dec.{eqb, ltb, leb}
-use borrow.Author.Tests.{eqb-true, eqb-false, eq-eqb, ne-eqb, leb-true, leb-false}
+use lib.Dec.{eqb, leb}
+use borrow.Author.Tests.{eqb-true, eq-eqb, ne-eqb, leb-true, leb-false}
 use Rattle.model.specs.Words.{choose, update}
 use Rattle.model.specs.State.{Cell, empty, held, owed, owes, owedOf}
 use Rattle.model.specs.Slot.{refillQueue}
-use Rattle.model.proofs.Words.{by-test, by-zero, eqb-same, none-not-some, some-inj}
+use Rattle.model.proofs.Words.{by-test, by-zero, none-not-some, some-inj}
 use Rattle.model.proofs.Cells.{owed-append, owed-here}
 
 -- One Owed cell of the walk: it stops there, or uses one credit and goes on.
@@ -30,7 +29,8 @@ credit-used c q p cells u =
     (λ t. rw t (omega (arith, ap c (eqb-true q p t))))
     (λ t. rw t (omega arith))
 
--- The queue at which the scan stops has more Owed cells than credits; where it does not stop, every Owed cell is covered.
+-- The queue at which the scan stops has more Owed cells than credits; where it does not stop, every Owed cell is
+-- covered.
 pub scan-some : (c : ℕ → ℕ) (cells : List Cell) (q : ℕ) → refillQueue c cells ≡ some q → c q < owedOf q cells
 scan-some c [] q e = absurd (none-not-some q e)
 scan-some c (empty ∷ cells) q e = omega (arith, scan-some c cells q e)
@@ -38,9 +38,12 @@ scan-some c (held p v ∷ cells) q e = omega (arith, scan-some c cells q e)
 scan-some c (owed p ∷ cells) q e =
     by-zero (c p)
     (λ z. let s : p ≡ q = some-inj p q (sym (scan-stops c p cells z) ∙ e) in
-        omega (arith, ap c s, owed-here q cells, ap (λ (i : ℕ). owedOf q (owed i ∷ cells)) s))
-    (λ u. omega (arith, credit-used c p q cells u
-        , scan-some (update c p (c p - 1)) cells q (sym (scan-goes-on c p cells u) ∙ e)))
+    omega (arith, ap c s, owed-here q cells, ap (λ (i : ℕ). owedOf q (owed i ∷ cells)) s))
+    (λ u. omega (
+      arith,
+      credit-used c p q cells u,
+      scan-some (update c p (c p - 1)) cells q (sym (scan-goes-on c p cells u) ∙ e),
+    ))
 
 pub scan-none : (c : ℕ → ℕ) (cells : List Cell) → refillQueue c cells ≡ none → (p : ℕ) → owedOf p cells ≤ c p
 scan-none c [] e p = omega arith
@@ -49,8 +52,11 @@ scan-none c (held q v ∷ cells) e p = omega (arith, scan-none c cells e p)
 scan-none c (owed q ∷ cells) e p =
     by-zero (c q)
     (λ z. absurd (none-not-some q (sym e ∙ scan-stops c q cells z)))
-    (λ u. omega (arith, credit-used c q p cells u
-        , scan-none (update c q (c q - 1)) cells (sym (scan-goes-on c q cells u) ∙ e) p))
+    (λ u. omega (
+      arith,
+      credit-used c q p cells u,
+      scan-none (update c q (c q - 1)) cells (sym (scan-goes-on c q cells u) ∙ e) p,
+    ))
 
 -- The paper's scan, word for word: `before` are the cells already passed.
 abbrev pub scan : (ℕ → ℕ) → List Cell → List Cell → Option ℕ
@@ -87,8 +93,8 @@ scan-is head before (owed q ∷ cells) =
     by-test (leb (head q) (owedOf q before))
     (λ t. rw t (scan-stops (creditsLeft head before) q cells (omega (arith, leb-true (head q) (owedOf q before) t))))
     (λ t. rw t (scan-goes-on (creditsLeft head before) q cells (omega (arith, leb-false (head q) (owedOf q before) t))
-        ∙ ap (λ (c : ℕ → ℕ). refillQueue c cells) (one-owed head before q)
-        ∙ scan-is head (before ++ (owed q ∷ [])) cells))
+    ∙ ap (λ (c : ℕ → ℕ). refillQueue c cells) (one-owed head before q)
+    ∙ scan-is head (before ++ (owed q ∷ [])) cells))
 
 pub scan-from-oldest : (head : ℕ → ℕ) (cells : List Cell) → refillQueue head cells ≡ scan head [] cells
 scan-from-oldest head cells =

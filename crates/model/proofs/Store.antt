@@ -1,8 +1,8 @@
--- The blocks of a queue in the slow store, in ring order: one more block joins at the end, and a write changes that block
--- and no other, because no two blocks share a place.
+-- The blocks of a queue in the slow store, in ring order: one more block joins at the end, and a write changes that
+-- block and no other, because no two blocks share a place.
 use mathlib.Core.Path.{_≡_, refl, ap, sym, _∙_}
-use mathlib.Core.Bool.{Bool, true, false}
-use mathlib.Core.List.{List, [], _∷_, _++_, append-assoc, append-nil}
+use mathlib.Core.Bool.{false}
+use mathlib.Core.List.{List, _++_, append-assoc, append-nil}
 use Prim.Native.Nat.{ℕ, zero, suc, _+_, _-_, _*_, _<_, _≤_, _%_, _/_}
 use native.Mathlib.Omega.{arith}
 use native.Mathlib.Nat.{mod-lt, mod-eq-of-lt, mod-add-mod, mod-eq-sub-mod, mul-le-mul-right}
@@ -31,13 +31,24 @@ pub ring-places-apart : (K first i n : ℕ) → first < K → i < n → n < K �
 ring-places-apart K first i n l m h e =
     by-test (ltb (first + i) K)
     (λ t. by-test (ltb (first + n) K)
-        (λ u. omega (arith, e, mod-eq-of-lt (ltb-true (first + i) K t), mod-eq-of-lt (ltb-true (first + n) K u)))
-        (λ u. omega (arith, e, mod-eq-of-lt (ltb-true (first + i) K t), wraps K (first + n) (omega arith) u
-            , ltb-false (first + n) K u)))
+    (λ u. omega (arith, e, mod-eq-of-lt (ltb-true (first + i) K t), mod-eq-of-lt (ltb-true (first + n) K u)))
+    (λ u. omega (
+      arith,
+      e,
+      mod-eq-of-lt (ltb-true (first + i) K t),
+      wraps K (first + n) (omega arith) u,
+      ltb-false (first + n) K u,
+    )))
     (λ t. by-test (ltb (first + n) K)
-        (λ u. omega (arith, ltb-true (first + n) K u, ltb-false (first + i) K t))
-        (λ u. omega (arith, e, wraps K (first + i) (omega arith) t, wraps K (first + n) (omega arith) u
-            , ltb-false (first + n) K u, ltb-false (first + i) K t)))
+    (λ u. omega (arith, ltb-true (first + n) K u, ltb-false (first + i) K t))
+    (λ u. omega (
+      arith,
+      e,
+      wraps K (first + i) (omega arith) t,
+      wraps K (first + n) (omega arith) u,
+      ltb-false (first + n) K u,
+      ltb-false (first + i) K t,
+    )))
 
 -- One more block at the end.
 pub ring-longer : (s : Sizes) (store : List ℕ) (q first n : ℕ) → first < s .K
@@ -50,10 +61,10 @@ ring-longer s store q first n l =
     longer first zero l = append-nil (blockAt s store q first) ∙ ap (blockAt s store q) (sym (at-first (s .K) first l))
     longer first (suc n) l =
         ap (λ (r : List ℕ). blockAt s store q first ++ r)
-          (longer next n (mod-lt (first + 1) (omega arith))
-            ∙ ap (λ (i : ℕ). ringBytes s store q next n ++ blockAt s store q i) (step-around (s .K) first n))
+        (longer next n (mod-lt (first + 1) (omega arith))
+        ∙ ap (λ (i : ℕ). ringBytes s store q next n ++ blockAt s store q i) (step-around (s .K) first n))
         ∙ sym (append-assoc (blockAt s store q first) (ringBytes s store q next n)
-            (blockAt s store q ((first + suc n) % s .K)))
+        (blockAt s store q ((first + suc n) % s .K)))
       where
         next : ℕ
         next = (first + 1) % s .K
@@ -63,8 +74,12 @@ pub ring-length : (s : Sizes) (store : List ℕ) (q first n : ℕ) → first < s
     → length (ringBytes s store q first n) ≡ s .b * n
 ring-length s store q first zero l h = omega arith
 ring-length s store q first (suc n) l h =
-    omega (arith, length-append (blockAt s store q first) (ringBytes s store q ((first + 1) % s .K) n), h first l
-      , ring-length s store q ((first + 1) % s .K) n (mod-lt (first + 1) (omega arith)) h)
+    omega (
+      arith,
+      length-append (blockAt s store q first) (ringBytes s store q ((first + 1) % s .K) n),
+      h first l,
+      ring-length s store q ((first + 1) % s .K) n (mod-lt (first + 1) (omega arith)) h,
+    )
 
 -- Two stores that have the same blocks at the places of a ring.
 pub ring-same : (s : Sizes) (store store′ : List ℕ) (q first n : ℕ) → first < s .K
@@ -74,24 +89,28 @@ ring-same s store store′ q first zero l h = refl
 ring-same s store store′ q first (suc n) l h =
     ap (λ (r : List ℕ). r ++ ringBytes s store′ q next n) here
     ∙ ap (λ (r : List ℕ). blockAt s store q first ++ r)
-      (ring-same s store store′ q next n (mod-lt (first + 1) (omega arith))
-        (λ i k. rw (step-around (s .K) first i) (h (suc i) (omega arith))))
+    (ring-same s store store′ q next n (mod-lt (first + 1) (omega arith))
+    (λ i k. rw (step-around (s .K) first i) (h (suc i) (omega arith))))
   where
     next : ℕ
     next = (first + 1) % s .K
+
     here : blockAt s store′ q first ≡ blockAt s store q first
     here = rw (at-first (s .K) first l) at (h 0 (omega arith))
 
 -- The store in blocks of b bytes, of which block m is written.
 slice-front : (p b : ℕ) (xs ys : List ℕ) → p + b ≤ length xs → take b (drop p (xs ++ ys)) ≡ take b (drop p xs)
 slice-front p b xs ys h =
-    ap (take b) (drop-append-le p xs ys (omega arith)) ∙ take-append-le b (drop p xs) ys (omega (arith, length-drop p xs))
+    ap (take b) (drop-append-le p xs ys (omega arith)) ∙ take-append-le b (drop p xs) ys
+    (omega (arith, length-drop p xs))
 
 module _ (b m : ℕ) (values store : List ℕ) (size : length values ≡ b) (fits : m * b + b ≤ length store) where
   abbrev written : List ℕ
   written = placed (m * b) values store
+
   abbrev front : List ℕ
   front = take (m * b) store
+
   abbrev back : List ℕ
   back = drop (m * b + length values) store
 
@@ -109,7 +128,8 @@ module _ (b m : ℕ) (values store : List ℕ) (size : length values ≡ b) (fit
       ∙ ap (λ (n : ℕ). drop (m * b + n) store) size
 
   pub block-untouched : (n : ℕ) → (n ≡ m → ⊥) → take b (drop (n * b) written) ≡ take b (drop (n * b) store)
-  block-untouched n apart = by-test (ltb n m) (λ t. before (ltb-true n m t)) (λ t. after (omega (arith, ltb-false n m t, apart)))
+  block-untouched n apart = by-test (ltb n m) (λ t. before (ltb-true n m t))
+      (λ t. after (omega (arith, ltb-false n m t, apart)))
     where
       before : n < m → take b (drop (n * b) written) ≡ take b (drop (n * b) store)
       before l =
@@ -119,15 +139,17 @@ module _ (b m : ℕ) (values store : List ℕ) (size : length values ≡ b) (fit
         where
           ends : n * b + b ≤ length front
           ends = omega (arith, front-long, mul-le-mul-right {m = suc n} b l)
+
       after : m < n → take b (drop (n * b) written) ≡ take b (drop (n * b) store)
       after l = ap (take b) (at written ∙ ap (drop further) past-written ∙ sym (at store))
         where
           further : ℕ
           further = n * b - (m * b + b)
+
           at : (r : List ℕ) → drop (n * b) r ≡ drop further (drop (m * b + b) r)
           at r =
               ap (λ (i : ℕ). drop i r)
-                (let e : n * b ≡ m * b + b + further = omega (arith, mul-le-mul-right {m = suc m} b l) in e)
+              (let e : n * b ≡ m * b + b + further = omega (arith, mul-le-mul-right {m = suc m} b l) in e)
               ∙ sym (drop-drop further (m * b + b) r)
 
 -- The number of a block tells its queue and its place in the ring.

@@ -1,12 +1,12 @@
 -- Sums over the queues 0 to n - 1: monotone, bounded by n times a bound, and changed by what changes at one queue.
-use mathlib.Core.Path.{_≡_, refl, ap, sym}
-use mathlib.Core.Bool.{Bool, true, false}
-use Prim.Native.Nat.{ℕ, zero, suc, _+_, _-_, _*_, _<_, _≤_}
+use mathlib.Core.Path.{_≡_, refl, ap}
+use mathlib.Core.Bool.{false}
+use Prim.Native.Nat.{ℕ, zero, suc, _+_, _*_, _<_, _≤_}
 use native.Mathlib.Omega.{arith}
 use lib.Dec.{eqb}
 use borrow.Author.Tests.{eqb-true, eqb-false}
-use Rattle.model.specs.Words.{choose, update}
-use Rattle.model.proofs.Words.{by-test, at-queue, eqb-same, update-same, update-other}
+use Rattle.model.specs.Words.{update}
+use Rattle.model.proofs.Words.{by-test, update-same, update-other}
 
 abbrev pub sum : ℕ → (ℕ → ℕ) → ℕ
 sum zero f = 0
@@ -25,7 +25,8 @@ pub sum-le : (n : ℕ) (f g : ℕ → ℕ) → ((q : ℕ) → q < n → f q ≤ 
 sum-le n f g h = omega (arith, sum-le-add n 0 f g (λ q l. omega (arith, h q l)))
 
 pub sum-bound : (n d : ℕ) (f : ℕ → ℕ) → ((q : ℕ) → q < n → f q ≤ d) → sum n f ≤ n * d
-sum-bound n d f h = omega (arith, sum-le-add n d f (λ q. 0) (λ q l. omega (arith, h q l)), sum-zero n (λ q. 0) (λ q. refl))
+sum-bound n d f h = omega
+    (arith, sum-le-add n d f (λ q. 0) (λ q l. omega (arith, h q l)), sum-zero n (λ q. 0) (λ q. refl))
 
 -- Two functions that differ at one queue only, there by the difference of two numbers.
 pub sum-shift : (n : ℕ) (f g : ℕ → ℕ) (q more less : ℕ) → q < n
@@ -50,8 +51,11 @@ sum-shift (suc n) f g q more less l e h =
 pub sum-bound-zero : (n d : ℕ) (f : ℕ → ℕ) (q : ℕ) → q < n → f q ≡ 0 → ((p : ℕ) → p < n → f p ≤ d)
     → sum n f + d ≤ n * d
 sum-bound-zero n d f q l z h =
-    omega (arith, sum-bound n d (update f q d) bound
-      , sum-shift n f (update f q d) q 0 d l (omega (arith, update-same f q d)) (update-other f q d))
+    omega (
+      arith,
+      sum-bound n d (update f q d) bound,
+      sum-shift n f (update f q d) q 0 d l (omega (arith, update-same f q d)) (update-other f q d),
+    )
   where
     bound : (p : ℕ) → p < n → update f q d p ≤ d
     bound p k = by-test (eqb q p) (λ t. rw t (omega arith)) (λ t. rw t (h p k))

@@ -1,10 +1,10 @@
--- The scan as a walk that does not stop. Each queue has its head bytes as credits, and an Owed cell uses one. An Owed cell
--- that finds none is an order for a block: it leaves its queue b - 1 credits, and the walk goes on. Every order is due late
--- enough, which is invariant I3: the jth order, at a place p slots and c cells away, has j × b ≤ c + p.
-use mathlib.Core.Path.{_≡_, refl, ap, sym, _∙_, fun-ext, subst}
-use mathlib.Core.Bool.{Bool, true, false}
+-- The scan as a walk that does not stop. Each queue has its head bytes as credits, and an Owed cell uses one. An Owed
+-- cell that finds none is an order for a block: it leaves its queue b - 1 credits, and the walk goes on. Every order
+-- is due late enough, which is invariant I3: the jth order, at a place p slots and c cells away, has j × b ≤ c + p.
+use mathlib.Core.Path.{_≡_, ap, sym, _∙_, fun-ext, subst}
+use mathlib.Core.Bool.{false}
 use mathlib.Core.List.{List, [], _∷_, _++_}
-use mathlib.Core.Option.{Option, some, none}
+use mathlib.Core.Option.{some, none}
 use Prim.Native.Nat.{ℕ, zero, suc, _+_, _-_, _*_, _<_, _≤_}
 use native.Mathlib.Omega.{arith}
 use lib.Dec.{eqb}
@@ -13,13 +13,14 @@ use borrow.Author.Tests.{eqb-true}
 use Rattle.model.specs.Words.{choose, update}
 use Rattle.model.specs.State.{Byte, Cell, empty, held, owed, owedOf, countOf}
 use Rattle.model.specs.Slot.{refillQueue, oldestCell, headWithout, without}
-use Rattle.model.proofs.Words.{by-test, by-zero, eqb-same, update-same, update-other, none-not-some, some-inj}
+use Rattle.model.proofs.Words.{by-test, by-zero, update-same, update-other, none-not-some, some-inj}
 use Rattle.model.proofs.Sums.{sum, sum-shift, sum-bound-zero}
 use Rattle.model.proofs.Bytes.{count-without}
-use Rattle.model.proofs.Cells.{CellBelow, CellsBelow, allOwed, isOwing, owed-here}
+use Rattle.model.proofs.Cells.{CellsBelow, allOwed, isOwing, owed-here}
 use Rattle.model.proofs.Scan.{scan-stops, scan-goes-on}
 
--- `slack` is the cell's place and the slots since the last move, less b for each order before it: an order needs b of it.
+-- `slack` is the cell's place and the slots since the last move, less b for each order before it: an order needs b of
+-- it.
 pub data Walk (b : ℕ) : ℕ → (ℕ → ℕ) → List Cell → Type 0 where
   at-end : {slack : ℕ} {credits : ℕ → ℕ} → Walk b slack credits []
   at-empty : {slack : ℕ} {credits : ℕ → ℕ} {cells : List Cell}
@@ -89,7 +90,7 @@ module _ (Q b d : ℕ) (bd : b ≡ suc d) where
   walk-youngest-owed {slack} {c} q l below bound account at-end =
       by-zero (c q)
       (λ z. at-order {slack = slack} z
-          (omega (arith, bd, account, sum-bound-zero Q d c q l z (λ p k. omega (arith, bound p)))) at-end)
+      (omega (arith, bd, account, sum-bound-zero Q d c q l z (λ p k. omega (arith, bound p)))) at-end)
       (λ u. at-covered {credits = c} {q = q} u at-end)
   walk-youngest-owed q l below bound account (at-empty w) =
       at-empty (walk-youngest-owed q l (below .1) (λ p. omega (arith, bound p)) (omega (arith, account)) w)
@@ -97,18 +98,25 @@ module _ (Q b d : ℕ) (bd : b ≡ suc d) where
       at-held (walk-youngest-owed q l (below .1) (λ p. omega (arith, bound p)) (omega (arith, account)) w)
   walk-youngest-owed {slack} {c} q l below bound account (at-covered {cells = cells} {q = p} u w) =
       at-covered u (walk-youngest-owed q l (below .1)
-        (credits-bounded d c p (c p - 1) cells (omega (arith, bound p, owed-here p cells)) bound)
-        (omega (arith, account
-          , sum-shift Q c (update c p (c p - 1)) p 1 0 (below .0)
-              (omega (arith, update-same c p (c p - 1))) (update-other c p (c p - 1))))
-        w)
+      (credits-bounded d c p (c p - 1) cells (omega (arith, bound p, owed-here p cells)) bound)
+      (omega (
+        arith,
+        account,
+        sum-shift Q c (update c p (c p - 1)) p 1 0 (below .0)
+            (omega (arith, update-same c p (c p - 1))) (update-other c p (c p - 1)),
+      ))
+      w)
   walk-youngest-owed {slack} {c} q l below bound account (at-order {cells = cells} {q = p} z m w) =
       at-order z m (walk-youngest-owed q l (below .1)
-        (credits-bounded d c p (b - 1) cells (omega (arith, bd)) bound)
-        (omega (arith, account, bd
-          , sum-shift Q c (update c p (b - 1)) p 0 d (below .0)
-              (omega (arith, bd, z, update-same c p (b - 1))) (update-other c p (b - 1))))
-        w)
+      (credits-bounded d c p (b - 1) cells (omega (arith, bd)) bound)
+      (omega (
+        arith,
+        account,
+        bd,
+        sum-shift Q c (update c p (b - 1)) p 0 d (below .0)
+            (omega (arith, bd, z, update-same c p (b - 1))) (update-other c p (b - 1)),
+      ))
+      w)
 
 -- Where the scan finds nothing there is no order, and the slack does not matter.
 pub walk-no-order : {b slack : ℕ} {c : ℕ → ℕ} {cells : List Cell} (other : ℕ) → refillQueue c cells ≡ none
@@ -121,8 +129,8 @@ walk-no-order other e (at-covered {credits = c} {cells = cells} {q = q} u w) =
 walk-no-order other e (at-order {credits = c} {cells = cells} {q = q} z l w) =
     absurd (none-not-some q (sym e ∙ scan-stops c q cells z))
 
--- A read of the first order's queue takes that order off and leaves the others: at its place the walk had no credit and
--- went on with b - 1; now it has b there and goes on with b - 1.
+-- A read of the first order's queue takes that order off and leaves the others: at its place the walk had no credit
+-- and went on with b - 1; now it has b there and goes on with b - 1.
 module _ (b : ℕ) (pos : 1 ≤ b) (q : ℕ) where
   abbrev Refilled : (ℕ → ℕ) → (ℕ → ℕ) → Type 0
   Refilled before after = (p : ℕ) → after p ≡ before p + choose (eqb q p) b 0
@@ -144,12 +152,14 @@ module _ (b : ℕ) (pos : 1 ≤ b) (q : ℕ) where
   walk-refilled less c′ g k e (at-order {slack = slack} {credits = c} {cells = cells} {q = p} z l w) =
       at-covered {credits = c′} {q = p} (omega (arith, here))
       (subst (λ (f : ℕ → ℕ). Walk b (suc less) f cells) (fun-ext same-credits)
-        (subst (λ (n : ℕ). Walk b n (update c p (b - 1)) cells) (omega arith) w))
+      (subst (λ (n : ℕ). Walk b n (update c p (b - 1)) cells) (omega arith) w))
     where
       same : p ≡ q
       same = some-inj p q (sym (scan-stops c p cells z) ∙ e)
+
       here : c′ p ≡ b
       here = omega (arith, z, k p, ap (λ (i : ℕ). choose (eqb q i) b 0) same, update-same (λ i. 0) q b)
+
       same-credits : (i : ℕ) → update c p (b - 1) i ≡ update c′ p (c′ p - 1) i
       same-credits i =
           by-test (eqb p i)

@@ -1,20 +1,20 @@
 -- Demand 3, and the laws of one slot that callers cite, as statements. Their proofs are in proofs/.
 use mathlib.Core.Path.{_≡_}
-use mathlib.Core.Bool.{Bool, true, false}
+use mathlib.Core.Bool.{Bool, true}
 use mathlib.Core.List.{List, [], _∷_, _++_}
-use mathlib.Core.Option.{Option, some, none}
+use mathlib.Core.Option.{some, none}
 use Prim.Native.Nat.{ℕ, zero, suc, _+_, _≤_, _<_}
 use lib.Dec.{eqb}
 use lib.ListN.{length, take, replicate}
 use Rattle.model.specs.Words.{All, someOf}
-use Rattle.model.specs.Sizes.{Sizes, Limits, paperLimits, accepts, lookahead, tailSize, headSize, storeBytes}
-use Rattle.model.specs.Sizes.{span, full, oneFewer}
-use Rattle.model.specs.State.{Byte, byte}
+use Rattle.model.specs.Sizes.{Sizes, Limits, accepts, lookahead, tailSize, headSize, storeBytes, span, full}
+use Rattle.model.specs.Sizes.{oneFewer}
+use Rattle.model.specs.State.{byte}
 use Rattle.model.specs.Slot.{Call}
 use Rattle.model.specs.Lists.{Step, listOf, accepted, deliveries, arrivalsOf, requestsOf, requestAt, owedToAll}
 
--- "Both caches are looked at as each slot ends, the tail also just after the arrival joins it, the head also just after
--- the read": "the tail cache never holds over Q(b - 1) + b bytes and the head cache never over 2Q(b - 1) + 1".
+-- "Both caches are looked at as each slot ends, the tail also just after the arrival joins it, the head also just
+-- after the read": "the tail cache never holds over Q(b - 1) + b bytes and the head cache never over 2Q(b - 1) + 1".
 pub record CachesHold (s : Sizes) (step : Step) : Type 0 where
   pub tail-joined : step .joinedFill ≤ tailSize s
   pub tail-ends : length (step .state .tail) ≤ tailSize s
@@ -28,8 +28,8 @@ pub record NoMiss (step : Step) : Type 0 where
   pub not-10 : step .number ≡ 10 → ⊥
 
 -- Demand 3 of one list: `steps` with the refused slots in it, `slots` the accepted ones.
--- `delay`: "slot t + L delivers" what slot t's request is owed, nothing where slot t has no request, "and neither do slots
--- 0 to L - 1": one equation for all deliveries of the list.
+-- `delay`: "slot t + L delivers" what slot t's request is owed, nothing where slot t has no request, "and neither do
+-- slots 0 to L - 1": one equation for all deliveries of the list.
 -- `in-time`: "that arrival always came in slot t or an earlier one".
 pub record ListMeets (s : Sizes) (steps : List Step) (slots : List Step) : Type 0 where
   pub delay : deliveries slots ≡ take (length slots) (replicate (lookahead s) none ++ owedToAll slots)
@@ -39,23 +39,28 @@ pub record ListMeets (s : Sizes) (steps : List Step) (slots : List Step) : Type 
   pub caches : All (CachesHold s) steps
   pub no-miss : All NoMiss steps
 
--- "Some list there has a slot that answers 8", and this is the list, of Q × b + Q + Q(b - 1) slots: a block of arrivals
--- for each queue in turn, a request for each queue in turn, and idle slots.
+-- "Some list there has a slot that answers 8", and this is the list, of Q × b + Q + Q(b - 1) slots: a block of
+-- arrivals for each queue in turn, a request for each queue in turn, and idle slots.
 abbrev pub blockOfArrivals : ℕ → ℕ → List Call
 blockOfArrivals b q = replicate b (record { arrival = some (byte q 0); request = none })
+
 abbrev pub fillFrom : ℕ → ℕ → ℕ → List Call
 fillFrom b q zero = []
 fillFrom b q (suc n) = blockOfArrivals b q ++ fillFrom b (suc q) n
+
 abbrev pub requestsFrom : ℕ → ℕ → List Call
 requestsFrom q zero = []
 requestsFrom q (suc n) = record { arrival = none; request = some q } ∷ requestsFrom (suc q) n
+
 abbrev pub idles : ℕ → List Call
 idles n = replicate n (record { arrival = none; request = none })
+
 abbrev pub missingList : Sizes → List Call
 missingList s = fillFrom (s .b) 0 (s .Q) ++ (requestsFrom 0 (s .Q) ++ idles (span s))
 
 abbrev pub answers8 : Step → Bool
 answers8 step = eqb (step .number) 8
+
 abbrev pub Misses : Limits → Sizes → List ℕ → Type 0
 Misses limits s store = someOf answers8 (listOf (oneFewer limits) s store (missingList s)) ≡ true
 

@@ -1,5 +1,4 @@
 -- Document 01, "Lists of slots": a list of slots with the refused ones in it, and what each request is owed.
-use mathlib.Core.Bool.{Bool, true, false}
 use mathlib.Core.List.{List, [], _∷_, _++_, map}
 use mathlib.Core.Option.{Option, some, none}
 use Prim.Native.Nat.{ℕ, zero, suc, _+_}
@@ -7,11 +6,11 @@ use lib.Dec.{eqb}
 use lib.ListN.{length, take, getElem?}
 use Rattle.model.specs.Words.{choose, tabulate}
 use Rattle.model.specs.Sizes.{Sizes, Design}
-use Rattle.model.specs.State.{Byte, byte, State, fresh, valuesOf}
+use Rattle.model.specs.State.{Byte, State, fresh, valuesOf}
 use Rattle.model.specs.Slot.{Call, asByte, arriving, joined, refilled, Answer, slot}
 
--- One slot of a list: its number, what it took of its arrival and its request, its answer, state and store as it ends,
--- the tail's fill "just after the arrival joins it" and the head's "just after the read".
+-- One slot of a list: its number, what it took of its arrival and its request, its answer, state and store as it
+-- ends, the tail's fill "just after the arrival joins it" and the head's "just after the read".
 pub record Step : Type 0 where
   pub number : ℕ
   pub arrival : Option Byte
@@ -28,36 +27,39 @@ pub record Step : Type 0 where
 abbrev pub taken : {A : Type 0} → ℕ → Option A → Option A
 taken zero o = o
 taken (suc n) o = none
+
 abbrev pub joinedFillOf : ℕ → State → Call → ℕ
 joinedFillOf zero x call = length (joined x call .tail)
 joinedFillOf (suc n) x call = length (x .tail)
+
 abbrev pub readFillOf : ℕ → State → List ℕ → Call → ℕ
 readFillOf zero x store call = length (refilled x store call .head)
 readFillOf (suc n) x store call = length (x .head)
 
 abbrev pub stepOf : State → List ℕ → Call → Answer → Step
-stepOf x store call a = record
-  { number = a .number
-  ; arrival = taken (a .number) (call .arrival)
-  ; request = taken (a .number) (call .request)
-  ; delivered = a .delivered
-  ; written = a .written
-  ; read = a .read
-  ; state = a .state
-  ; store = a .store
-  ; joinedFill = joinedFillOf (a .number) x call
-  ; readFill = readFillOf (a .number) x store call }
+stepOf x store call a = record {
+  number = a .number;
+  arrival = taken (a .number) (call .arrival);
+  request = taken (a .number) (call .request);
+  delivered = a .delivered;
+  written = a .written;
+  read = a .read;
+  state = a .state;
+  store = a .store;
+  joinedFill = joinedFillOf (a .number) x call;
+  readFill = readFillOf (a .number) x store call;
+}
 
--- "Each slot getting state and store exactly as the one before left them"; "a refused slot stays in the list and passes
--- on state and store as it got them".
+-- "Each slot getting state and store exactly as the one before left them"; "a refused slot stays in the list and
+-- passes on state and store as it got them".
 abbrev pub run : Design → State → List ℕ → List Call → List Step
 run design x store [] = []
 run design x store (call ∷ calls) =
     stepOf x store call (slot design x store call)
     ∷ run design (slot design x store call .state) (slot design x store call .store) calls
 
--- "The list of demand 3 is a fresh state of accepted sizes, a store with any bytes in it, then any number of slots, none
--- included."
+-- "The list of demand 3 is a fresh state of accepted sizes, a store with any bytes in it, then any number of slots,
+-- none included."
 abbrev pub listOf : Design → Sizes → List ℕ → List Call → List Step
 listOf design s store calls = run design (fresh design s) store calls
 
@@ -66,18 +68,23 @@ abbrev pub accepted : List Step → List Step
 accepted [] = []
 accepted (step ∷ steps) = choose (eqb (step .number) 0) (step ∷ accepted steps) (accepted steps)
 
--- Of accepted slots: what each delivers, the arrivals of a queue in order, how many requests of it, the request of slot t.
+-- Of accepted slots: what each delivers, the arrivals of a queue in order, how many requests of it, the request of
+-- slot t.
 abbrev pub deliveries : List Step → List (Option Byte)
 deliveries slots = map (λ step. step .delivered) slots
+
 abbrev pub arrivalsOf : ℕ → List Step → List ℕ
 arrivalsOf q [] = []
 arrivalsOf q (step ∷ slots) = valuesOf q (arriving (step .arrival)) ++ arrivalsOf q slots
+
 abbrev pub asks : ℕ → Option ℕ → ℕ
 asks q none = 0
 asks q (some p) = choose (eqb p q) 1 0
+
 abbrev pub requestsOf : ℕ → List Step → ℕ
 requestsOf q [] = 0
 requestsOf q (step ∷ slots) = asks q (step .request) + requestsOf q slots
+
 abbrev pub requestAt : List Step → ℕ → Option ℕ
 requestAt [] t = none
 requestAt (step ∷ slots) zero = step .request
@@ -89,6 +96,7 @@ requestAt (step ∷ slots) (suc t) = requestAt slots t
 abbrev pub owedTo : List Step → ℕ → Option ℕ → Option Byte
 owedTo slots t none = none
 owedTo slots t (some q) = asByte q (getElem? (arrivalsOf q slots) (requestsOf q (take t slots)))
+
 abbrev pub owedAt : List Step → ℕ → Option Byte
 owedAt slots t = owedTo slots t (requestAt slots t)
 

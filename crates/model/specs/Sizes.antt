@@ -1,9 +1,9 @@
 -- Document 01, "Sizes".
-use mathlib.Core.Bool.{Bool, true, false, not}
+use mathlib.Core.Bool.{Bool, not}
 use mathlib.Core.List.{List, [], _∷_}
 use mathlib.Core.Option.{Option, some, none}
-use Prim.Native.Nat.{ℕ, zero, suc, _+_, _-_, _*_, _/_}
-use lib.Dec.{eqb, ltb, leb}
+use Prim.Native.Nat.{ℕ, _+_, _-_, _*_, _/_}
+use lib.Dec.{eqb, leb}
 use lib.ListN.{getD}
 use Rattle.model.specs.Words.{choose, between, allTrue, when}
 
@@ -20,7 +20,8 @@ sizes q b k = record { Q = q; b = b; K = k }
 abbrev pub span : Sizes → ℕ
 span s = s .Q * (s .b - 1)
 
--- The limits, each named here and nowhere else. They are a parameter of the model, so that one argument serves all limits.
+-- The limits, each named here and nowhere else. They are a parameter of the model, so that one argument serves all
+-- limits.
 pub record Limits : Type 0 where
   pub mostQueues : ℕ
   pub mostBlockBytes : ℕ
@@ -28,11 +29,12 @@ pub record Limits : Type 0 where
   pub mostSpan : ℕ
 
 abbrev pub paperLimits : Limits
-paperLimits = record
-  { mostQueues = 64
-  ; mostBlockBytes = 128
-  ; mostRingBlocks = 255
-  ; mostSpan = 2016 }
+paperLimits = record {
+  mostQueues = 64;
+  mostBlockBytes = 128;
+  mostRingBlocks = 255;
+  mostSpan = 2016;
+}
 
 -- "Q queues, 1 to 64. b bytes to a block, 1 to 128. K blocks of slow store to a queue, 1 to 255. Also Q(b - 1) is at
 -- most 2,016."
@@ -42,6 +44,7 @@ sizeRules limits s =
     between 1 (s .b) (limits .mostBlockBytes) ∷
     between 1 (s .K) (limits .mostRingBlocks) ∷
     leb (span s) (limits .mostSpan) ∷ []
+
 abbrev pub accepts : Limits → Sizes → Bool
 accepts limits s = allTrue (sizeRules limits s)
 
@@ -73,22 +76,26 @@ pub record Design : Type 0 where
 -- The design of the paper, under any limits; `paper` has the paper's own.
 abbrev pub full : Limits → Design
 full limits = record { limits = limits; cellCount = lookahead }
+
 abbrev pub paper : Design
 paper = full paperLimits
 
--- "One lookahead cell fewer means the steps and refusals of this paper with Q(b - 1) cells where L stands .. and all other sizes kept."
+-- "One lookahead cell fewer means the steps and refusals of this paper with Q(b - 1) cells where L stands .. and all
+-- other sizes kept."
 abbrev pub oneFewer : Limits → Design
 oneFewer limits = record { limits = limits; cellCount = span }
 
 -- "The grades are a table of sixteen cycle times, 5 ns to 80 ns in steps of 5, grade 0 first."
 abbrev pub cycleTimes : List ℕ
 cycleTimes = 5 ∷ 10 ∷ 15 ∷ 20 ∷ 25 ∷ 30 ∷ 35 ∷ 40 ∷ 45 ∷ 50 ∷ 55 ∷ 60 ∷ 65 ∷ 70 ∷ 75 ∷ 80 ∷ []
+
 abbrev pub cycleTime : ℕ → ℕ
 cycleTime g = getD cycleTimes g 0
 
 -- "At R Gb/s (1 to 100) and memory grade g (0 to 15)": the limits of the sizing rule.
 abbrev pub mostRate : ℕ
 mostRate = 100
+
 abbrev pub mostGrade : ℕ
 mostGrade = 15
 
@@ -100,9 +107,9 @@ blockFor R g = (R * cycleTime g + 3) / 4
 abbrev pub sizingNumber : ℕ → ℕ → ℕ
 sizingNumber R g =
     when (not (allTrue (
-        between 1 R mostRate ∷
-        leb g mostGrade ∷
-        leb (blockFor R g) (paperLimits .mostBlockBytes) ∷ []))) 11
+    between 1 R mostRate ∷
+    leb g mostGrade ∷
+    leb (blockFor R g) (paperLimits .mostBlockBytes) ∷ []))) 11
 
 -- The sizing rule's answer: the block, or none beside the number 11.
 abbrev pub sizedBlock : ℕ → ℕ → Option ℕ

@@ -1,5 +1,5 @@
 -- Document 01, "One slot" and "What refusals hand back" (2 to 10): the five steps, the refusals, and the slot itself.
-use mathlib.Core.Bool.{Bool, true, false, _&&_, not}
+use mathlib.Core.Bool.{Bool, false, _&&_, not}
 use mathlib.Core.List.{List, [], _∷_, _++_}
 use mathlib.Core.Option.{Option, some, none}
 use Prim.Native.Nat.{ℕ, zero, suc, _+_, _-_, _*_, _%_, max}
@@ -7,8 +7,8 @@ use lib.Dec.{eqb, ltb, leb}
 use lib.ListN.{length, take, drop, set, getElem?}
 use Rattle.model.specs.Words.{choose, update, when, firstRefusal}
 use Rattle.model.specs.Sizes.{Sizes, Design, tailSize, headSize, storeBytes, blockPlace}
-use Rattle.model.specs.State.{Byte, byte, Cell, empty, held, owed, Ring, ring, State, valuesOf, countOf, tailBytes}
-use Rattle.model.specs.State.{headBytes, owedCells, ringOf, blocks, keeps}
+use Rattle.model.specs.State.{Byte, byte, Cell, empty, held, owed, Ring, ring, State, valuesOf, countOf}
+use Rattle.model.specs.State.{tailBytes, headBytes, owedCells, ringOf, blocks, keeps}
 
 -- "A slot may have one arrival (queue, byte) and one request (queue)."
 pub record Call : Type 0 where
@@ -23,6 +23,7 @@ asByte q (some v) = some (byte q v)
 -- The oldest byte of a queue in a cache; the cache without the n oldest of it.
 abbrev pub oldestOf : ℕ → List Byte → Option ℕ
 oldestOf q xs = getElem? (valuesOf q xs) 0
+
 abbrev pub without : ℕ → ℕ → List Byte → List Byte
 without zero q xs = xs
 without (suc n) q [] = []
@@ -38,6 +39,7 @@ abbrev pub deliveryOf : Cell → List Byte → Option Byte
 deliveryOf empty head = none
 deliveryOf (held q v) head = some (byte q v)
 deliveryOf (owed q) head = asByte q (oldestOf q head)
+
 abbrev pub headWithout : Cell → List Byte → List Byte
 headWithout empty head = head
 headWithout (held q v) head = head
@@ -45,101 +47,118 @@ headWithout (owed q) head = without 1 q head
 
 abbrev pub delivery : State → Option Byte
 delivery x = deliveryOf (oldestCell (x .cells)) (x .head)
-abbrev pub afterDelivery : State → State
-afterDelivery x = record
-  { sizes = x .sizes
-  ; phase = x .phase
-  ; tail = x .tail
-  ; head = headWithout (oldestCell (x .cells)) (x .head)
-  ; cells = drop 1 (x .cells)
-  ; rings = x .rings
-  ; tailMark = x .tailMark
-  ; headMark = x .headMark }
 
--- 2. "The arriving byte joins the tail." A mark rises with its fill: the paper leaves it free between fill and cache size,
--- the model takes the greatest fill so far, and no promise speaks of that choice.
+abbrev pub afterDelivery : State → State
+afterDelivery x = record {
+  sizes = x .sizes;
+  phase = x .phase;
+  tail = x .tail;
+  head = headWithout (oldestCell (x .cells)) (x .head);
+  cells = drop 1 (x .cells);
+  rings = x .rings;
+  tailMark = x .tailMark;
+  headMark = x .headMark;
+}
+
+-- 2. "The arriving byte joins the tail." A mark rises with its fill: the paper leaves it free between fill and cache
+-- size, the model takes the greatest fill so far, and no promise speaks of that choice.
 abbrev pub arriving : Option Byte → List Byte
 arriving none = []
 arriving (some y) = y ∷ []
+
 abbrev pub afterArrival : Option Byte → State → State
-afterArrival arrival x = record
-  { sizes = x .sizes
-  ; phase = x .phase
-  ; tail = x .tail ++ arriving arrival
-  ; head = x .head
-  ; cells = x .cells
-  ; rings = x .rings
-  ; tailMark = max (x .tailMark) (length (x .tail ++ arriving arrival))
-  ; headMark = x .headMark }
+afterArrival arrival x = record {
+  sizes = x .sizes;
+  phase = x .phase;
+  tail = x .tail ++ arriving arrival;
+  head = x .head;
+  cells = x .cells;
+  rings = x .rings;
+  tailMark = max (x .tailMark) (length (x .tail ++ arriving arrival));
+  headMark = x .headMark;
+}
 
 -- 3. "The request takes the youngest cell. It is Owed if the queue's head bytes + b × blocks exceed its Owed cells.
 -- Otherwise it is Held and takes the oldest tail byte of its queue. With no request the cell is empty."
 abbrev pub isOwed : State → ℕ → Bool
 isOwed x q = ltb (owedCells x q) (headBytes x q + x .sizes .b * blocks x q)
+
 abbrev pub heldCell : ℕ → Option ℕ → Cell
 heldCell q none = empty
 heldCell q (some v) = held q v
+
 abbrev pub youngestCell : State → Option ℕ → Cell
 youngestCell x none = empty
 youngestCell x (some q) = choose (isOwed x q) (owed q) (heldCell q (oldestOf q (x .tail)))
+
 abbrev pub tailLeft : State → Option ℕ → List Byte
 tailLeft x none = x .tail
 tailLeft x (some q) = choose (isOwed x q) (x .tail) (without 1 q (x .tail))
+
 abbrev pub afterRequest : Option ℕ → State → State
-afterRequest request x = record
-  { sizes = x .sizes
-  ; phase = x .phase
-  ; tail = tailLeft x request
-  ; head = x .head
-  ; cells = x .cells ++ youngestCell x request ∷ []
-  ; rings = x .rings
-  ; tailMark = x .tailMark
-  ; headMark = x .headMark }
+afterRequest request x = record {
+  sizes = x .sizes;
+  phase = x .phase;
+  tail = tailLeft x request;
+  head = x .head;
+  cells = x .cells ++ youngestCell x request ∷ [];
+  rings = x .rings;
+  tailMark = x .tailMark;
+  headMark = x .headMark;
+}
 
 -- 4. "If the phase is b - 1, two moves follow."
 abbrev pub moves : State → Bool
 moves x = eqb (x .phase) (x .sizes .b - 1)
 
--- "First a write: among queues with b tail bytes or more, the one with most (lowest number on a tie)." The queues 0 to
--- n - 1 are looked at in turn, and a later one is taken only where it has more.
+-- "First a write: among queues with b tail bytes or more, the one with most (lowest number on a tie)." The queues 0
+-- to n - 1 are looked at in turn, and a later one is taken only where it has more.
 abbrev pub fuller : ℕ → (ℕ → ℕ) → ℕ → Option ℕ → Option ℕ
 fuller b bytes q none = choose (leb b (bytes q)) (some q) none
 fuller b bytes q (some p) = choose (ltb (bytes p) (bytes q)) (some q) (some p)
+
 abbrev pub fullest : ℕ → (ℕ → ℕ) → ℕ → Option ℕ
 fullest b bytes zero = none
 fullest b bytes (suc n) = fuller b bytes n (fullest b bytes n)
+
 abbrev pub queueToWrite : State → Option ℕ
 queueToWrite x = choose (moves x) (fullest (x .sizes .b) (tailBytes x) (x .sizes .Q)) none
 
 -- ".. sends its b oldest to the next ring block": "each queue uses its K blocks as a ring from block 0".
 abbrev pub nextBlock : State → ℕ → ℕ
 nextBlock x q = (ringOf (x .rings) q .first + ringOf (x .rings) q .count) % x .sizes .K
+
 abbrev pub placed : ℕ → List ℕ → List ℕ → List ℕ
 placed place values store = take place store ++ (values ++ drop (place + length values) store)
+
 abbrev pub tailWritten : Option ℕ → State → List Byte
 tailWritten none x = x .tail
 tailWritten (some q) x = without (x .sizes .b) q (x .tail)
+
 abbrev pub ringsWritten : Option ℕ → State → List Ring
 ringsWritten none x = x .rings
 ringsWritten (some q) x =
     set (x .rings) q (ring (ringOf (x .rings) q .first) (ringOf (x .rings) q .count + 1))
+
 abbrev pub afterWrite : Option ℕ → State → State
-afterWrite written x = record
-  { sizes = x .sizes
-  ; phase = x .phase
-  ; tail = tailWritten written x
-  ; head = x .head
-  ; cells = x .cells
-  ; rings = ringsWritten written x
-  ; tailMark = x .tailMark
-  ; headMark = x .headMark }
+afterWrite written x = record {
+  sizes = x .sizes;
+  phase = x .phase;
+  tail = tailWritten written x;
+  head = x .head;
+  cells = x .cells;
+  rings = ringsWritten written x;
+  tailMark = x .tailMark;
+  headMark = x .headMark;
+}
+
 abbrev pub storeWritten : Option ℕ → State → List ℕ → List ℕ
 storeWritten none x store = store
 storeWritten (some q) x store =
     placed (blockPlace (x .sizes) q (nextBlock x q)) (take (x .sizes .b) (valuesOf q (x .tail))) store
 
--- "Then a read: scan the cells from the oldest and stop at the first Owed cell that its queue's head bytes do not cover."
--- Each Owed cell uses one of its queue's head bytes, its credits; the first that finds none left is the one.
+-- "Then a read: scan the cells from the oldest and stop at the first Owed cell that its queue's head bytes do not
+-- cover." Each Owed cell uses one of its queue's head bytes, its credits; the first that finds none left is the one.
 abbrev pub refillQueue : (ℕ → ℕ) → List Cell → Option ℕ
 refillQueue credits [] = none
 refillQueue credits (empty ∷ cells) = refillQueue credits cells
@@ -148,55 +167,66 @@ refillQueue credits (owed q ∷ cells) =
     choose (eqb (credits q) 0)
     (some q)
     (refillQueue (update credits q (credits q - 1)) cells)
+
 abbrev pub queueToRead : State → Option ℕ
 queueToRead x = choose (moves x) (refillQueue (headBytes x) (x .cells)) none
 
 -- "That queue's first block goes to the head." "A block that was read frees its place for writing."
 abbrev pub blockAt : Sizes → List ℕ → ℕ → ℕ → List ℕ
 blockAt s store q k = take (s .b) (drop (blockPlace s q k) store)
+
 abbrev pub bytesFor : ℕ → List ℕ → List Byte
 bytesFor q [] = []
 bytesFor q (v ∷ vs) = byte q v ∷ bytesFor q vs
+
 abbrev pub headRead : Option ℕ → State → List ℕ → List Byte
 headRead none x store = x .head
 headRead (some q) x store =
     x .head ++ bytesFor q (blockAt (x .sizes) store q (ringOf (x .rings) q .first))
+
 abbrev pub ringsRead : Option ℕ → State → List Ring
 ringsRead none x = x .rings
 ringsRead (some q) x =
     set (x .rings) q (ring ((ringOf (x .rings) q .first + 1) % x .sizes .K) (ringOf (x .rings) q .count - 1))
+
 abbrev pub afterRead : Option ℕ → State → List ℕ → State
-afterRead readQueue x store = record
-  { sizes = x .sizes
-  ; phase = x .phase
-  ; tail = x .tail
-  ; head = headRead readQueue x store
-  ; cells = x .cells
-  ; rings = ringsRead readQueue x
-  ; tailMark = x .tailMark
-  ; headMark = max (x .headMark) (length (headRead readQueue x store)) }
+afterRead readQueue x store = record {
+  sizes = x .sizes;
+  phase = x .phase;
+  tail = x .tail;
+  head = headRead readQueue x store;
+  cells = x .cells;
+  rings = ringsRead readQueue x;
+  tailMark = x .tailMark;
+  headMark = max (x .headMark) (length (headRead readQueue x store));
+}
 
 -- 5. "The phase rises by one, and after b - 1 comes 0."
 abbrev pub afterPhase : State → State
-afterPhase x = record
-  { sizes = x .sizes
-  ; phase = choose (moves x) 0 (x .phase + 1)
-  ; tail = x .tail
-  ; head = x .head
-  ; cells = x .cells
-  ; rings = x .rings
-  ; tailMark = x .tailMark
-  ; headMark = x .headMark }
+afterPhase x = record {
+  sizes = x .sizes;
+  phase = choose (moves x) 0 (x .phase + 1);
+  tail = x .tail;
+  head = x .head;
+  cells = x .cells;
+  rings = x .rings;
+  tailMark = x .tailMark;
+  headMark = x .headMark;
+}
 
 -- The state along a slot: after the arrival, after the request, after the write (with its store), after the read.
 abbrev pub joined : State → Call → State
 joined x call = afterArrival (call .arrival) (afterDelivery x)
+
 abbrev pub asked : State → Call → State
 asked x call = afterRequest (call .request) (joined x call)
+
 abbrev pub wrote : State → Call → State
 wrote x call = afterWrite (queueToWrite (asked x call)) (asked x call)
+
 abbrev pub wroteStore : State → List ℕ → Call → List ℕ
 wroteStore x store call = storeWritten (queueToWrite (asked x call)) (asked x call) store
+
 abbrev pub refilled : State → List ℕ → Call → State
 refilled x store call = afterRead (queueToRead (wrote x call)) (wrote x call) (wroteStore x store call)
 
@@ -205,28 +235,34 @@ refilled x store call = afterRead (queueToRead (wrote x call)) (wrote x call) (w
 abbrev pub arrivalUnknown : State → Option Byte → Bool
 arrivalUnknown x none = false
 arrivalUnknown x (some y) = leb (x .sizes .Q) (y .queue)
+
 -- 5: "Arrival queue's tail bytes + b × blocks equal K × b."
 abbrev pub arrivalFull : State → Option Byte → Bool
 arrivalFull x none = false
 arrivalFull x (some y) =
     eqb (tailBytes x (y .queue) + x .sizes .b * blocks x (y .queue)) (x .sizes .K * x .sizes .b)
+
 -- 6: "Request queue Q or more."
 abbrev pub requestUnknown : State → Option ℕ → Bool
 requestUnknown x none = false
 requestUnknown x (some q) = leb (x .sizes .Q) q
+
 -- 7: "Request queue would take a tail byte and has none, this slot's arrival counted."
 abbrev pub nothingToTake : State → Option Byte → Option ℕ → Bool
 nothingToTake x arrival none = false
 nothingToTake x arrival (some q) = not (isOwed x q) && eqb (countOf q (x .tail ++ arriving arrival)) 0
+
 -- 8: "Owed cell leaving, no head byte of its queue."
 abbrev pub leavesUncovered : Cell → State → Bool
 leavesUncovered empty x = false
 leavesUncovered (held q v) x = false
 leavesUncovered (owed q) x = eqb (headBytes x q) 0
+
 -- 9: "Tail full before the arrival."
 abbrev pub tailFull : State → Option Byte → Bool
 tailFull x none = false
 tailFull x (some y) = leb (tailSize (x .sizes)) (length (x .tail))
+
 -- 10: "Head cannot take the block of step 4", "judged as step 4 finds the head".
 abbrev pub headFull : State → Option ℕ → Bool
 headFull x none = false
@@ -244,6 +280,7 @@ refusals design x store call =
     when (leavesUncovered (oldestCell (x .cells)) x) 8 ∷
     when (tailFull x (call .arrival)) 9 ∷
     when (headFull (wrote x call) (queueToRead (wrote x call))) 10 ∷ []
+
 abbrev pub refusal : Design → State → List ℕ → Call → ℕ
 refusal design x store call = firstRefusal (refusals design x store call)
 
@@ -258,23 +295,25 @@ pub record Answer : Type 0 where
   pub store : List ℕ
 
 abbrev pub accept : State → List ℕ → Call → Answer
-accept x store call = record
-  { number = 0
-  ; delivered = delivery x
-  ; written = queueToWrite (asked x call)
-  ; read = queueToRead (wrote x call)
-  ; state = afterPhase (refilled x store call)
-  ; store = wroteStore x store call }
+accept x store call = record {
+  number = 0;
+  delivered = delivery x;
+  written = queueToWrite (asked x call);
+  read = queueToRead (wrote x call);
+  state = afterPhase (refilled x store call);
+  store = wroteStore x store call;
+}
 
 -- "A refused slot did not happen: no cell moves, no phase passes." State and store are as given.
 abbrev pub refuse : ℕ → State → List ℕ → Answer
-refuse n x store = record
-  { number = n
-  ; delivered = none
-  ; written = none
-  ; read = none
-  ; state = x
-  ; store = store }
+refuse n x store = record {
+  number = n;
+  delivered = none;
+  written = none;
+  read = none;
+  state = x;
+  store = store;
+}
 
 abbrev pub answer : ℕ → State → List ℕ → Call → Answer
 answer zero x store call = accept x store call

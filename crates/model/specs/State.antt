@@ -1,9 +1,8 @@
 -- Document 01, "The state".
 use mathlib.Core.Path.{_≡_}
-use mathlib.Core.Bool.{Bool, true, false}
+use mathlib.Core.Bool.{Bool, true}
 use mathlib.Core.List.{List, [], _∷_}
-use mathlib.Core.Option.{Option, some, none}
-use Prim.Native.Nat.{ℕ, zero, suc, _+_, _-_, _*_}
+use Prim.Native.Nat.{ℕ, _+_, _*_}
 use lib.Dec.{eqb, ltb, leb}
 use lib.IntN.{ℤ, pos, _-ℤ_}
 use lib.Signed.{ltZ}
@@ -19,8 +18,8 @@ pub record Byte : Type 0 where
 abbrev pub byte : ℕ → ℕ → Byte
 byte q v = record { queue = q; value = v }
 
--- "A cell is empty, or Held (queue and byte), or Owed (queue)": the paper's own terms. A Held cell carries the byte that
--- it will deliver; an Owed cell will deliver a byte of the head cache, which may still be in the slow store.
+-- "A cell is empty, or Held (queue and byte), or Owed (queue)": the paper's own terms. A Held cell carries the byte
+-- that it will deliver; an Owed cell will deliver a byte of the head cache, which may still be in the slow store.
 pub data Cell : Type 0 where
   empty : Cell
   held : ℕ → ℕ → Cell
@@ -34,8 +33,8 @@ pub record Ring : Type 0 where
 abbrev pub ring : ℕ → ℕ → Ring
 ring f n = record { first = f; count = n }
 
--- "The state is one record that carries its caches and lookahead inside it." Every list has its oldest first, the rings
--- are by queue number. The phase counts the slots since the last move.
+-- "The state is one record that carries its caches and lookahead inside it." Every list has its oldest first, the
+-- rings are by queue number. The phase counts the slots since the last move.
 pub record State : Type 0 where
   pub sizes : Sizes
   pub phase : ℕ
@@ -48,20 +47,22 @@ pub record State : Type 0 where
 
 -- "A fresh state has all L cells empty from the start, empty caches and rings, first block 0, phase 0, marks 0."
 abbrev pub fresh : Design → Sizes → State
-fresh design s = record
-  { sizes = s
-  ; phase = 0
-  ; tail = []
-  ; head = []
-  ; cells = replicate (design .cellCount s) empty
-  ; rings = replicate (s .Q) (ring 0 0)
-  ; tailMark = 0
-  ; headMark = 0 }
+fresh design s = record {
+  sizes = s;
+  phase = 0;
+  tail = [];
+  head = [];
+  cells = replicate (design .cellCount s) empty;
+  rings = replicate (s .Q) (ring 0 0);
+  tailMark = 0;
+  headMark = 0;
+}
 
 -- The values of one queue in a cache, oldest first, and how many they are.
 abbrev pub valuesOf : ℕ → List Byte → List ℕ
 valuesOf q [] = []
 valuesOf q (x ∷ xs) = choose (eqb (x .queue) q) (x .value ∷ valuesOf q xs) (valuesOf q xs)
+
 abbrev pub countOf : ℕ → List Byte → ℕ
 countOf q xs = length (valuesOf q xs)
 
@@ -70,6 +71,7 @@ abbrev pub owes : ℕ → Cell → ℕ
 owes q empty = 0
 owes q (held p v) = 0
 owes q (owed p) = choose (eqb p q) 1 0
+
 abbrev pub owedOf : ℕ → List Cell → ℕ
 owedOf q [] = 0
 owedOf q (cell ∷ cells) = owes q cell + owedOf q cells
@@ -77,18 +79,23 @@ owedOf q (cell ∷ cells) = owes q cell + owedOf q cells
 -- What a state has of each queue: tail bytes, head bytes, Owed cells, its ring, its blocks in the slow store.
 abbrev pub tailBytes : State → ℕ → ℕ
 tailBytes x q = countOf q (x .tail)
+
 abbrev pub headBytes : State → ℕ → ℕ
 headBytes x q = countOf q (x .head)
+
 abbrev pub owedCells : State → ℕ → ℕ
 owedCells x q = owedOf q (x .cells)
+
 abbrev pub ringOf : List Ring → ℕ → Ring
 ringOf rings q = getD rings q (ring 0 0)
+
 abbrev pub blocks : State → ℕ → ℕ
 blocks x q = ringOf (x .rings) q .count
 
 -- "Queue numbers are below Q."
 abbrev pub byteBelow : ℕ → Byte → Bool
 byteBelow n x = ltb (x .queue) n
+
 abbrev pub cellBelow : ℕ → Cell → Bool
 cellBelow n empty = true
 cellBelow n (held q v) = ltb q n
@@ -106,8 +113,9 @@ hasRoom x q = leb (tailBytes x q + x .sizes .b * blocks x q) (x .sizes .K * x .s
 abbrev pub isBacked : State → ℕ → Bool
 isBacked x q = leb (owedCells x q) (headBytes x q + x .sizes .b * blocks x q)
 
--- "A state keeps the rules when the sizes are accepted, the fields lie in the ranges above, queue numbers are below Q,
--- fills fit the caches, and for each queue .." the last two. What it holds as a list has the length that it must have.
+-- "A state keeps the rules when the sizes are accepted, the fields lie in the ranges above, queue numbers are below
+-- Q, fills fit the caches, and for each queue .." the last two. What it holds as a list has the length that it must
+-- have.
 abbrev pub rules : Design → State → List Bool
 rules design x =
     accepts (design .limits) (x .sizes) ∷
@@ -124,12 +132,14 @@ rules design x =
     leb (length (x .head)) (headSize (x .sizes)) ∷
     allBelow (x .sizes .Q) (hasRoom x) ∷
     allBelow (x .sizes .Q) (isBacked x) ∷ []
+
 abbrev pub keeps : Design → State → Bool
 keeps design x = allTrue (rules design x)
 
 -- "The margin of a queue is its head bytes less its Owed cells. Below zero the queue is critical."
 abbrev pub margin : State → ℕ → ℤ
 margin x q = pos (headBytes x q) -ℤ pos (owedCells x q)
+
 abbrev pub critical : State → ℕ → Bool
 critical x q = ltZ (margin x q) (pos 0)
 

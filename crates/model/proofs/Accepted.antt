@@ -1,12 +1,11 @@
 -- A slot is refused whole, or accepted with none of the refusals; and what it tells of state, store and call that
 -- none of them holds.
 use mathlib.Core.Path.{_≡_, refl, ap, sym, _∙_, subst}
-use mathlib.Core.Bool.{Bool, false, _&&_, not}
+use mathlib.Core.Bool.{false, not}
 use mathlib.Core.List.{List, [], _∷_, _++_}
 use mathlib.Core.Option.{Option, some, none}
 use Prim.Native.Nat.{ℕ, zero, suc, _+_, _*_, _<_, _≤_}
 use native.Mathlib.Omega.{arith}
-use lib.Dec.{eqb}
 use lib.ListN.{length, take, getD}
 use borrow.Author.Tests.{eqb-false, leb-false, ltb-false, not-false}
 use Rattle.model.specs.Words.{when, firstRefusal}
@@ -15,7 +14,8 @@ use Rattle.model.specs.State.{Byte, State, countOf, tailBytes, blocks, k
 use Rattle.model.specs.Slot.{Call, arriving, isOwed, oldestCell, wrote, queueToRead, arrivalUnknown}
 use Rattle.model.specs.Slot.{arrivalFull, requestUnknown, nothingToTake, leavesUncovered, tailFull, headFull}
 use Rattle.model.specs.Slot.{refusals, refusal, Answer, accept, refuse, answer, slot}
-use Rattle.model.proofs.Words.{positive, no-refusal-at, when-zero}
+use Rattle.model.proofs.Words.{by-zero, true-not-false, no-refusal-at, when-zero}
+use Rattle.model.proofs.Meaning.{seven-there}
 use Rattle.model.proofs.Rules.{Rules, Keeps, keeps-facts, ArrivalTaken}
 
 -- Refusals 3, 2 and 4 to 9, all but 10.
@@ -37,9 +37,6 @@ pub record Judged (design : Design) (x : State) (store : List ℕ) (call : Call)
 pub record Accepted (design : Design) (x : State) (store : List ℕ) (call : Call) : Type 0 where
   pub judged : Judged design x store call
   pub head-room : headFull (wrote x call) (queueToRead (wrote x call)) ≡ false
-
-and-false : (s t : Bool) → (not s && t) ≡ false → s ≡ false → t ≡ false
-and-false s t e f = rw f at e
 
 arrival-taken : (x : State) (arrival : Option Byte) → arrivalUnknown x arrival ≡ false → arrivalFull x arrival ≡ false
     → (n : ℕ) → Rules n x → ArrivalTaken x arrival
@@ -70,12 +67,11 @@ request-known x request e q s = leb-false (x .sizes .Q) q (ap (requestUnknown x)
 
 something-to-take : (x : State) (arrival : Option Byte) (request : Option ℕ) → nothingToTake x arrival request ≡ false
     → (q : ℕ) → request ≡ some q → isOwed x q ≡ false → 1 ≤ countOf q (x .tail ++ arriving arrival)
-something-to-take x arrival request e q s f =
-    positive there (eqb-false there 0
-    (and-false (isOwed x q) (eqb there 0) (ap (nothingToTake x arrival) (sym s) ∙ e) f))
-  where
-    there : ℕ
-    there = countOf q (x .tail ++ arriving arrival)
+something-to-take x arrival request e q s t =
+    by-zero (countOf q (x .tail ++ arriving arrival))
+    (λ z. absurd (true-not-false (nothingToTake x arrival (some q)) (seven-there x arrival q t z)
+    (ap (nothingToTake x arrival) (sym s) ∙ e)))
+    (λ u. u)
 
 tail-takes : (x : State) (arrival : Option Byte) → tailFull x arrival ≡ false
     → (y : Byte) → arrival ≡ some y → length (x .tail) < tailSize (x .sizes)

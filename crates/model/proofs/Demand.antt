@@ -10,13 +10,17 @@ use native.Mathlib.Omega.{arith}
 use lib.ListN.{length, drop, take, replicate}
 use lib.Seq.{drop-nil}
 use Rattle.model.specs.Words.{tabulate, All}
-use Rattle.model.specs.Sizes.{Sizes, Limits, accepts, lookahead, full}
+use Rattle.model.specs.Sizes.{Sizes, Limits, accepts, span, lookahead, full}
 use Rattle.model.specs.State.{Byte, empty, State, fresh, owedOf}
 use Rattle.model.specs.Slot.{Call, Answer, slot}
 use Rattle.model.specs.Lists.{Step, stepOf, run, listOf, accepted, requestAt, owedToAll}
 use Rattle.model.specs.Ideal.{Ideal, lineOf, standsFor}
-use Rattle.model.specs.Demand.{CachesHold, NoMiss, ListMeets}
+use Rattle.model.specs.Demand.{CachesHold, NoMiss, ListMeets, Demand-3}
+use borrow.Author.Tests.{le-leb}
+use Rattle.model.proofs.Words.{and-both, between-holds}
 use Rattle.model.proofs.Rings.{ring-fresh}
+use Rattle.model.proofs.Sentences.{sentences}
+use Rattle.model.proofs.Missing.{misses}
 use Rattle.model.proofs.Rules.{Keeps}
 use Rattle.model.proofs.Accepted.{Outcome, was-refused, was-accepted, outcome}
 use Rattle.model.proofs.Kept.{length-joined, accept-kept}
@@ -124,3 +128,25 @@ every-list limits s store calls e = record {
     owed =
         given-is-owed (λ q. []) slots (d .finds)
         ∙ ap (tabulate (length slots)) (fun-ext (λ t. owed-from-nothing slots t (requestAt slots t)))
+
+-- The whole of demand 3, under any limits; under the paper's it is demand 3 of the accepted sizes.
+pub demand-3 : (limits : Limits) → Demand-3 limits
+demand-3 limits = record {
+  every-list = every-list limits;
+  every-sentence = λ s store calls e.
+      sentences s (listOf (full limits) s store calls) (accepted (listOf (full limits) s store calls))
+      (every-list limits s store calls e);
+  one-cell-fewer = misses limits;
+}
+
+-- Any limits serve: for all sizes of 1 or more there are limits that accept them.
+pub limits-for : Sizes → Limits
+limits-for s = record { mostQueues = s .Q; mostBlockBytes = s .b; mostRingBlocks = s .K; mostSpan = span s }
+
+pub accepts-any : (s : Sizes) → 1 ≤ s .Q → 1 ≤ s .b → 1 ≤ s .K → accepts (limits-for s) s ≡ true
+unfolding limits-for
+accepts-any s hq hb hk =
+    and-both _ _ (between-holds 1 (s .Q) (s .Q) hq (omega arith))
+    (and-both _ _ (between-holds 1 (s .b) (s .b) hb (omega arith))
+    (and-both _ _ (between-holds 1 (s .K) (s .K) hk (omega arith))
+    (and-both _ _ (le-leb (span s) (span s) (omega arith)) refl)))

@@ -10,16 +10,16 @@ use lib.Dec.{ltb}
 use lib.ListN.{length, length-append}
 use borrow.Author.Tests.{eqb-true, lt-leb, le-ltb}
 use Rattle.model.specs.Words.{choose, when}
-use Rattle.model.specs.Sizes.{Sizes, Limits, sizeRules, accepts, span, lookahead, tailSize, headSize}
-use Rattle.model.specs.Sizes.{storeBytes, full}
-use Rattle.model.specs.State.{Byte, State, fresh, tailBytes, headBytes, ringOf, keeps}
-use Rattle.model.specs.Slot.{Call, afterDelivery, moves, fullest, queueToWrite, afterWrite, refillQueue}
-use Rattle.model.specs.Slot.{queueToRead, blockAt, bytesFor, headRead, afterRead, afterPhase, joined, asked}
-use Rattle.model.specs.Slot.{wrote, wroteStore, refilled, arrivalUnknown, arrivalFull, requestUnknown}
-use Rattle.model.specs.Slot.{nothingToTake, tailFull, headFull, refusal, Answer, accept, slot}
-use Rattle.model.proofs.Words.{by-test, none-not-some, between-facts, all-true-at, low-refusal, when-le}
+use Rattle.model.specs.Sizes.{Sizes, Limits, accepts, span, lookahead, tailSize, headSize, storeBytes, full}
+use Rattle.model.specs.State.{Byte, State, fresh, ringOf, keeps}
+use Rattle.model.specs.Slot.{Call, afterDelivery, moves, queueToWrite, afterWrite, queueToRead, blockAt}
+use Rattle.model.specs.Slot.{bytesFor, headRead, afterRead, afterPhase, joined, asked, wrote, wroteStore}
+use Rattle.model.specs.Slot.{refilled, arrivalUnknown, arrivalFull, requestUnknown, nothingToTake, tailFull}
+use Rattle.model.specs.Slot.{headFull, refusal, Answer, accept, slot}
+use Rattle.model.proofs.Words.{by-test, none-not-some, low-refusal, when-le}
 use Rattle.model.proofs.Bytes.{length-for}
-use Rattle.model.proofs.Rules.{Rules, Keeps, rules-fresh}
+use Rattle.model.proofs.Meaning.{move-writes-fullest, no-move-no-write, move-reads-scan, no-move-no-read}
+use Rattle.model.proofs.Rules.{Rules, Keeps, keeps-fresh}
 use Rattle.model.proofs.Accepted.{Judged, earlyRefusals, judged-facts, Outcome, was-refused, was-accepted}
 use Rattle.model.proofs.Accepted.{outcome}
 use Rattle.model.proofs.Kept.{rules-2, rules-3, rules-written, rules-refilled, block-whole, accept-kept}
@@ -27,50 +27,14 @@ use Rattle.model.proofs.Invariant.{Invariant, invariant-fresh, invarian
 use Rattle.model.proofs.Invariant.{invariant-asked, invariant-wrote, invariant-read, oldest-covered}
 use Rattle.model.proofs.Invariant.{head-bounded}
 
--- Accepted sizes are 1 or more. It is all that the theory uses of the limits.
-pub record Positive (s : Sizes) : Type 0 where
-  pub q-positive : 1 ≤ s .Q
-  pub b-positive : 1 ≤ s .b
-  pub k-positive : 1 ≤ s .K
-
-pub positive-sizes : (limits : Limits) (s : Sizes) → accepts limits s ≡ true → Positive s
-positive-sizes limits s e = record {
-  q-positive = between-facts 1 (s .Q) (limits .mostQueues) (all-true-at (sizeRules limits s) 0 e) .0;
-  b-positive = between-facts 1 (s .b) (limits .mostBlockBytes) (all-true-at (sizeRules limits s) 1 e) .0;
-  k-positive = between-facts 1 (s .K) (limits .mostRingBlocks) (all-true-at (sizeRules limits s) 2 e) .0;
-}
-
 pub record Good (limits : Limits) (x : State) : Type 0 where
   pub kept : Keeps (full limits) x
   pub invariant : Invariant (x .phase) (x .phase) (x .phase) x
 
-pub keeps-fresh : (limits : Limits) (s : Sizes) → accepts limits s ≡ true → Keeps (full limits) (fresh (full limits) s)
-keeps-fresh limits s e = record {
-  sizes-ok = e;
-  phase-ok = positive-sizes limits s e .b-positive;
-  within = rules-fresh (full limits) s (positive-sizes limits s e .k-positive);
-  tail-fits = omega arith;
-  head-fits = omega arith;
-  tail-mark = (omega arith, omega arith);
-  head-mark = (omega arith, omega arith);
-}
-
 pub good-fresh : (limits : Limits) (s : Sizes) → accepts limits s ≡ true → Good limits (fresh (full limits) s)
-good-fresh limits s e = record { kept = keeps-fresh limits s e; invariant = invariant-fresh (full limits) s }
+good-fresh limits s e = record { kept = keeps-fresh (full limits) s e; invariant = invariant-fresh (full limits) s }
 
--- Whether the two moves are made.
-writes-fullest : (y : State) → moves y ≡ true → queueToWrite y ≡ fullest (y .sizes .b) (tailBytes y) (y .sizes .Q)
-writes-fullest y t = rw t
-
-reads-scan : (y : State) → moves y ≡ true → queueToRead y ≡ refillQueue (headBytes y) (y .cells)
-reads-scan y t = rw t
-
-writes-none : (y : State) → moves y ≡ false → queueToWrite y ≡ none
-writes-none y t = rw t
-
-reads-none : (y : State) → moves y ≡ false → queueToRead y ≡ none
-reads-none y t = rw t
-
+-- A slot without the two moves changes nothing of the invariant in step 4, and step 5 none of it.
 wrote-none : (i j k : ℕ) (y : State) (o : Option ℕ) → o ≡ none → Invariant i j k y → Invariant i j k (afterWrite o y)
 wrote-none i j k y o e v =
     subst (λ (p : Option ℕ). Invariant i j k (afterWrite p y)) (sym e)
@@ -127,13 +91,13 @@ module _ (limits : Limits) (x : State) (store : List ℕ) (call : Call)
 
     invariant-moved-out : Invariant b b 0 z
     invariant-moved-out =
-        invariant-wrote (lookahead (x .sizes)) y (queueToWrite y) (sym (writes-fullest y t))
+        invariant-wrote (lookahead (x .sizes)) y (queueToWrite y) (sym (move-writes-fullest y t))
         (rules-3 (full limits) x store call cells-ok j)
         (subst (λ (n : ℕ). Invariant n n n y) last-slot invariant-3)
 
     invariant-moved : Invariant 0 0 0 (refilled x store call)
     invariant-moved =
-        invariant-read (lookahead (x .sizes)) z store′ (queueToRead z) (sym (reads-scan z t))
+        invariant-read (lookahead (x .sizes)) z store′ (queueToRead z) (sym (move-reads-scan z t))
         (block-whole (full limits) x store call cells-ok j) b-positive
         (rules-written (full limits) x store call cells-ok j) invariant-moved-out
 
@@ -142,7 +106,7 @@ module _ (limits : Limits) (x : State) (store : List ℕ) (call : Call)
   no-10 = go (queueToRead z) refl
     where
       moving : (q : ℕ) → queueToRead z ≡ some q → moves x ≡ true
-      moving q e = by-test (moves x) (λ t. t) (λ t. absurd (none-not-some q (sym (reads-none z t) ∙ e)))
+      moving q e = by-test (moves x) (λ t. t) (λ t. absurd (none-not-some q (sym (no-move-no-read z t) ∙ e)))
 
       go : (o : Option ℕ) → queueToRead z ≡ o → headFull z o ≡ false
       go none e = refl
@@ -170,8 +134,8 @@ module _ (limits : Limits) (x : State) (store : List ℕ) (call : Call)
       by-test (moves x)
       (λ t. next-phase 0 (refilled x store call) (rw t) (invariant-moved t))
       (λ t. next-phase (suc p) (refilled x store call) (rw t (let e : p + 1 ≡ suc p = omega arith in e))
-      (read-none (suc p) (suc p) (suc p) z store′ (queueToRead z) (reads-none z t)
-      (wrote-none (suc p) (suc p) (suc p) y (queueToWrite y) (writes-none y t) invariant-3)))
+      (read-none (suc p) (suc p) (suc p) z store′ (queueToRead z) (no-move-no-read z t)
+      (wrote-none (suc p) (suc p) (suc p) y (queueToWrite y) (no-move-no-write y t) invariant-3)))
 
   pub accept-good : Good limits (accept x store call .state)
   accept-good = record {

@@ -22,6 +22,7 @@ use Rattle.model.specs.Slot.{accept, slot}
 use Rattle.model.proofs.Words.{by-test, none-not-some}
 use Rattle.model.proofs.Bytes.{length-for, length-without-le}
 use Rattle.model.proofs.Fullest.{IsFullest, fullest-some}
+use Rattle.model.proofs.Meaning.{move-writes-fullest, no-move-no-write, move-reads-scan, no-move-no-read}
 use Rattle.model.proofs.Rings.{place-fits, block-length}
 use Rattle.model.proofs.Rules.{Rules, Keeps, WriteTaken, ReadTaken, rules-delivered, rules-arrived}
 use Rattle.model.proofs.Rules.{rules-asked, rules-wrote, length-tail-left, scan-taken, rules-read, rules-phase}
@@ -96,15 +97,15 @@ pub write-taken : (y : State) → WriteTaken y (queueToWrite y)
 write-taken y q e =
     by-test (moves y)
     (λ t. let f : IsFullest (y .sizes .b) (tailBytes y) (y .sizes .Q) q
-    = fullest-some (y .sizes .b) (tailBytes y) (y .sizes .Q) q (rw t at e) in
+    = fullest-some (y .sizes .b) (tailBytes y) (y .sizes .Q) q (sym (move-writes-fullest y t) ∙ e) in
     (f .below, f .has-block))
-    (λ t. absurd (none-not-some q (rw t at e)))
+    (λ t. absurd (none-not-some q (sym (no-move-no-write y t) ∙ e)))
 
 pub read-scan : (z : State) (q : ℕ) → queueToRead z ≡ some q → refillQueue (headBytes z) (z .cells) ≡ some q
 read-scan z q e =
     by-test (moves z)
-    (λ t. rw t at e)
-    (λ t. absurd (none-not-some q (rw t at e)))
+    (λ t. sym (move-reads-scan z t) ∙ e)
+    (λ t. absurd (none-not-some q (sym (no-move-no-read z t) ∙ e)))
 
 pub read-taken : (n : ℕ) (z : State) → Rules n z → ReadTaken z (queueToRead z)
 read-taken n z v q e = scan-taken n z v q (read-scan z q e)

@@ -10,7 +10,7 @@ use lib.Dec.{eqb}
 use lib.ListN.{length, drop, set, getD, length-append, length-drop, length-set, length-replicate}
 use borrow.Author.Tests.{eqb-true, eq-eqb, leb-true, le-leb, ltb-true, lt-ltb}
 use Rattle.model.specs.Words.{choose, allOf}
-use Rattle.model.specs.Sizes.{Sizes, Design, accepts, tailSize, headSize, storeBytes}
+use Rattle.model.specs.Sizes.{Sizes, Limits, sizeRules, Design, accepts, tailSize, headSize, storeBytes}
 use Rattle.model.specs.State.{Byte, Cell, empty, held, owed, Ring, ring, State, fresh, countOf, owes, owedOf}
 use Rattle.model.specs.State.{tailBytes, headBytes, owedCells, ringOf, blocks, byteBelow, cellBelow}
 use Rattle.model.specs.State.{firstInRange, hasRoom, isBacked, rules, keeps}
@@ -24,6 +24,7 @@ use Rattle.model.proofs.Bytes.{Below, below-for, below-without, length-
 use Rattle.model.proofs.Bytes.{count-one-same, count-one-other, count-without, count-refilled}
 use Rattle.model.proofs.Cells.{CellBelow, CellsBelow, cell-below-fact, cell-below-holds, cells-below-drop}
 use Rattle.model.proofs.Cells.{owed-append, owed-below, owed-empties, cells-below-empties}
+use Rattle.model.proofs.Meaning.{fresh-cells, held-takes-from-tail, owed-leaves-tail}
 use Rattle.model.proofs.Scan.{scan-some}
 use Rattle.model.proofs.Rings.{ring-set-same, ring-set-other, ring-fresh, block-length, times-pred}
 
@@ -105,17 +106,41 @@ keeps-holds design x v =
     bytes : (xs : List Byte) → Below Q xs → allOf (byteBelow Q) xs ≡ true
     bytes xs h = all-of-holds (byteBelow Q) (λ (y : Byte). y .queue < Q) (λ y l. lt-ltb (y .queue) Q l) xs h
 
+-- Accepted sizes are 1 or more. It is all that the theory uses of the limits.
+pub record Positive (s : Sizes) : Type 0 where
+  pub q-positive : 1 ≤ s .Q
+  pub b-positive : 1 ≤ s .b
+  pub k-positive : 1 ≤ s .K
+
+pub positive-sizes : (limits : Limits) (s : Sizes) → accepts limits s ≡ true → Positive s
+positive-sizes limits s e = record {
+  q-positive = between-facts 1 (s .Q) (limits .mostQueues) (all-true-at (sizeRules limits s) 0 e) .0;
+  b-positive = between-facts 1 (s .b) (limits .mostBlockBytes) (all-true-at (sizeRules limits s) 1 e) .0;
+  k-positive = between-facts 1 (s .K) (limits .mostRingBlocks) (all-true-at (sizeRules limits s) 2 e) .0;
+}
+
 -- A fresh state keeps them.
 pub rules-fresh : (design : Design) (s : Sizes) → 1 ≤ s .K → Rules (design .cellCount s) (fresh design s)
 rules-fresh design s hk = record {
   tail-below = tt;
   head-below = tt;
   cells-below = cells-below-empties (s .Q) (design .cellCount s);
-  cells-long = length-replicate (design .cellCount s) empty;
+  cells-long = fresh-cells design s;
   rings-long = length-replicate (s .Q) (ring 0 0);
   firsts = λ q l. rw (ring-fresh (s .Q) q) hk;
   room = λ q l. rw (ring-fresh (s .Q) q, blocks) (omega arith);
   backed = λ q l. omega (arith, owed-empties (design .cellCount s) q);
+}
+
+pub keeps-fresh : (design : Design) (s : Sizes) → accepts (design .limits) s ≡ true → Keeps design (fresh design s)
+keeps-fresh design s e = record {
+  sizes-ok = e;
+  phase-ok = positive-sizes (design .limits) s e .b-positive;
+  within = rules-fresh design s (positive-sizes (design .limits) s e .k-positive);
+  tail-fits = omega arith;
+  head-fits = omega arith;
+  tail-mark = (omega arith, omega arith);
+  head-mark = (omega arith, omega arith);
 }
 
 -- 1. The oldest cell leaves.
@@ -213,23 +238,23 @@ pub count-tail-left : (x : State) (request : Option ℕ) (q : ℕ) → countOf q
 count-tail-left x none q = omega arith
 count-tail-left x (some p) q =
     by-test (isOwed x p)
-    (λ t. rw t (omega arith))
-    (λ t. rw t (omega (arith, count-without 1 p q (x .tail))))
+    (λ t. rw (owed-leaves-tail x p t) (omega arith))
+    (λ t. rw (held-takes-from-tail x p t) (omega (arith, count-without 1 p q (x .tail))))
 
 pub length-tail-left : (x : State) (request : Option ℕ) → length (tailLeft x request) ≤ length (x .tail)
 length-tail-left x none = omega arith
 length-tail-left x (some q) =
     by-test (isOwed x q)
-    (λ t. rw t (omega arith))
-    (λ t. rw t (omega (arith, length-without-le 1 q (x .tail))))
+    (λ t. rw (owed-leaves-tail x q t) (omega arith))
+    (λ t. rw (held-takes-from-tail x q t) (omega (arith, length-without-le 1 q (x .tail))))
 
-below-tail-left : (x : State) (request : Option ℕ) → Below (x .sizes .Q) (x .tail) → Below (x .sizes .Q)
-    (tailLeft x request)
+below-tail-left : (x : State) (request : Option ℕ) → Below (x .sizes .Q) (x .tail)
+    → Below (x .sizes .Q) (tailLeft x request)
 below-tail-left x none h = h
 below-tail-left x (some p) h =
     by-test (isOwed x p)
-    (λ t. rw t h)
-    (λ t. rw t (below-without (x .sizes .Q) 1 p (x .tail) h))
+    (λ t. rw (owed-leaves-tail x p t) h)
+    (λ t. rw (held-takes-from-tail x p t) (below-without (x .sizes .Q) 1 p (x .tail) h))
 
 backed-asked : (x : State) (request : Option ℕ) (q : ℕ)
     → owedCells x q ≤ headBytes x q + x .sizes .b * blocks x q

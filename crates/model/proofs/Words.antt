@@ -131,3 +131,10 @@ low-refusal most (suc m ∷ ns) n h f = h .0
 pub when-le : (most : ℕ) (t : Bool) (n : ℕ) → n ≤ most → when t n ≤ most
 when-le most true n h = h
 when-le most false n h = omega arith
+
+-- Where none of a list is a refusal, the first is the one behind it.
+pub last-refusal : (ns : List ℕ) (n : ℕ) → firstRefusal ns ≡ 0 → firstRefusal (ns ++ n ∷ []) ≡ n
+last-refusal [] zero e = refl
+last-refusal [] (suc n) e = refl
+last-refusal (zero ∷ ns) n e = last-refusal ns n e
+last-refusal (suc m ∷ ns) n e = absurd (omega (arith, e))

@@ -5,7 +5,7 @@ use mathlib.Core.List.{List, [], _∷_, _++_}
 use mathlib.Core.Option.{some, none}
 use Prim.Native.Nat.{ℕ, zero, suc, _+_, _≤_, _<_}
 use lib.Dec.{eqb}
-use lib.ListN.{length, take, replicate}
+use lib.ListN.{length, take, replicate, getD, getElem?}
 use Rattle.model.specs.Words.{All, someOf}
 use Rattle.model.specs.Sizes.{Sizes, Limits, accepts, lookahead, tailSize, headSize, storeBytes, span, full}
 use Rattle.model.specs.Sizes.{oneFewer}
@@ -39,6 +39,22 @@ pub record ListMeets (s : Sizes) (steps : List Step) (slots : List Step) : Type 
   pub caches : All (CachesHold s) steps
   pub no-miss : All NoMiss steps
 
+-- The same, sentence by sentence: what slot t + L delivers.
+-- `answered`: "where slot t has an accepted request, the nth of its queue, slot t + L delivers that queue and the
+-- byte of the nth accepted arrival of it, if the list has a slot t + L".
+-- `silent`: "where slot t has no accepted request, slot t + L delivers nothing".
+-- `quiet-start`: "and neither do slots 0 to L - 1".
+pub record Sentences (s : Sizes) (slots : List Step) : Type 0 where
+  pub answered :
+      (t q : ℕ) → requestAt slots t ≡ some q → t + lookahead s < length slots
+      → (v : ℕ)
+      × (getElem? (arrivalsOf q slots) (requestsOf q (take t slots)) ≡ some v)
+      × (getD (deliveries slots) (t + lookahead s) none ≡ some (byte q v))
+  pub silent :
+      (t : ℕ) → requestAt slots t ≡ none → t + lookahead s < length slots
+      → getD (deliveries slots) (t + lookahead s) none ≡ none
+  pub quiet-start : (t : ℕ) → t < lookahead s → getD (deliveries slots) t none ≡ none
+
 -- "Some list there has a slot that answers 8", and this is the list, of Q × b + Q + Q(b - 1) slots: a block of
 -- arrivals for each queue in turn, a request for each queue in turn, and idle slots.
 abbrev pub blockOfArrivals : ℕ → ℕ → List Call
@@ -70,6 +86,10 @@ pub record Demand-3 (limits : Limits) : Type 0 where
       (s : Sizes) (store : List ℕ) (calls : List Call)
       → accepts limits s ≡ true
       → ListMeets s (listOf (full limits) s store calls) (accepted (listOf (full limits) s store calls))
+  pub every-sentence :
+      (s : Sizes) (store : List ℕ) (calls : List Call)
+      → accepts limits s ≡ true
+      → Sentences s (accepted (listOf (full limits) s store calls))
   pub one-cell-fewer :
       (s : Sizes) (store : List ℕ)
       → accepts limits s ≡ true

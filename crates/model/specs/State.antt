@@ -1,13 +1,14 @@
 -- Document 01, "The state".
 use mathlib.Core.Path.{_≡_}
-use mathlib.Core.Bool.{Bool, true}
+use mathlib.Core.Bool.{Bool, true, not}
 use mathlib.Core.List.{List, [], _∷_}
+use mathlib.Core.Option.{Option, some, none}
 use Prim.Native.Nat.{ℕ, _+_, _*_}
 use lib.Dec.{eqb, ltb, leb}
 use lib.IntN.{ℤ, pos, _-ℤ_}
 use lib.Signed.{ltZ}
 use lib.ListN.{length, getD, replicate}
-use Rattle.model.specs.Words.{choose, between, allTrue, allOf, allBelow}
+use Rattle.model.specs.Words.{choose, when, between, allTrue, allOf, allBelow}
 use Rattle.model.specs.Sizes.{Sizes, Design, accepts, tailSize, headSize}
 
 -- "Each byte with its queue."
@@ -34,7 +35,7 @@ abbrev pub ring : ℕ → ℕ → Ring
 ring f n = record { first = f; count = n }
 
 -- "The state is one record that carries its caches and lookahead inside it." Every list has its oldest first, the
--- rings are by queue number. The phase counts the slots since the last move.
+-- rings are by queue number. The phase says how far the next move is.
 pub record State : Type 0 where
   pub sizes : Sizes
   pub phase : ℕ
@@ -57,6 +58,13 @@ fresh design s = record {
   tailMark = 0;
   headMark = 0;
 }
+
+-- "1: sizes outside the limits: no state made." "A making of a state checks 1 only."
+abbrev pub makingNumber : Design → Sizes → ℕ
+makingNumber design s = when (not (accepts (design .limits) s)) 1
+
+abbrev pub made : Design → Sizes → Option State
+made design s = choose (accepts (design .limits) s) (some (fresh design s)) none
 
 -- The values of one queue in a cache, oldest first, and how many they are.
 abbrev pub valuesOf : ℕ → List Byte → List ℕ

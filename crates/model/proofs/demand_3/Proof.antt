@@ -1,0 +1,11 @@
+use Rattle.model.proofs.Demand.{demand-3}
+use Rattle.model.proofs.demand_3.Statement.{statement}
+use Rattle.model.proofs.demand_3.Tie as tie
+use Rattle.model.proofs.demand_3.Reads as reads
+use Rattle.model.proofs.demand_3.Lts as lts
+
+returns : tie.Need-returns
+returns c = demand-3
+
+pub demand-3-spec : {M : Type 1} → statement M
+demand-3-spec = tie.close (tie.spec returns)

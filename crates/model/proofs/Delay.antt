@@ -14,7 +14,7 @@ use Rattle.model.specs.Sizes.{Design}
 use Rattle.model.specs.State.{Byte, State, valuesOf}
 use Rattle.model.specs.Slot.{Call, asByte, arriving, Answer, slot}
 use Rattle.model.specs.Lists.{Step, stepOf, run, accepted, deliveries, arrivalsOf, asks, requestsOf, requestAt}
-use Rattle.model.specs.Lists.{owedTo}
+use Rattle.model.specs.Lists.{dueTo}
 use Rattle.model.specs.Ideal.{Ideal, soonest, withArrival, given, idealSlot, standsFor, stream, IsIdealSlot}
 use Rattle.model.proofs.Words.{eqb-same, none-not-some}
 use Rattle.model.proofs.Rules.{Keeps}
@@ -92,9 +92,9 @@ module _ (design : Design) where
       (rw (k .same-sizes) h) (k .kept))
 
 -- What a request was given is what it is owed, where `w` waited before the list began.
-abbrev owedFrom : (ℕ → List ℕ) → List Step → ℕ → Option ℕ → Option Byte
-owedFrom w slots t none = none
-owedFrom w slots t (some q) = asByte q (getElem? (w q ++ arrivalsOf q slots) (requestsOf q (take t slots)))
+abbrev dueFrom : (ℕ → List ℕ) → List Step → ℕ → Option ℕ → Option Byte
+dueFrom w slots t none = none
+dueFrom w slots t (some q) = asByte q (getElem? (w q ++ arrivalsOf q slots) (requestsOf q (take t slots)))
 
 own-request : (q : ℕ) → asks q (some q) ≡ 1
 own-request q = rw (eqb-same q)
@@ -107,7 +107,7 @@ nth-drop (suc n) i (x ∷ l) = nth-drop n i l ∙ ap (getElem? (x ∷ l)) (let e
 module _ (w : ℕ → List ℕ) (step : Step) (slots : List Step)
     (there : (q : ℕ) → asks q (step .request) ≤ length (withArrival w (step .arrival) q)) where
   given-now : (r : Option ℕ) → step .request ≡ r
-      → given (withArrival w (step .arrival)) r ≡ owedFrom w (step ∷ slots) 0 r
+      → given (withArrival w (step .arrival)) r ≡ dueFrom w (step ∷ slots) 0 r
   given-now none e = refl
   given-now (some q) e =
       ap (asByte q)
@@ -118,7 +118,7 @@ module _ (w : ℕ → List ℕ) (step : Step) (slots : List Step)
       one : 1 ≤ length (withArrival w (step .arrival) q)
       one = omega (arith, there q, ap (asks q) e, own-request q)
 
-  given-later : (t : ℕ) (r : Option ℕ) → owedFrom (leftWaiting w step) slots t r ≡ owedFrom w (step ∷ slots) (suc t) r
+  given-later : (t : ℕ) (r : Option ℕ) → dueFrom (leftWaiting w step) slots t r ≡ dueFrom w (step ∷ slots) (suc t) r
   given-later t none = refl
   given-later t (some q) =
       ap (asByte q)
@@ -136,18 +136,18 @@ module _ (w : ℕ → List ℕ) (step : Step) (slots : List Step)
       front : List ℕ
       front = withArrival w (step .arrival) q
 
-pub given-is-owed : (w : ℕ → List ℕ) (slots : List Step) → Finds w slots
-    → gives w slots ≡ tabulate (length slots) (λ t. owedFrom w slots t (requestAt slots t))
-given-is-owed w [] f = refl
-given-is-owed w (step ∷ slots) f =
+pub given-is-due : (w : ℕ → List ℕ) (slots : List Step) → Finds w slots
+    → gives w slots ≡ tabulate (length slots) (λ t. dueFrom w slots t (requestAt slots t))
+given-is-due w [] f = refl
+given-is-due w (step ∷ slots) f =
     ap (λ (o : Option Byte). o ∷ gives (leftWaiting w step) slots) (given-now w step slots (f .0) (step .request) refl)
-    ∙ ap (λ (l : List (Option Byte)). owedFrom w (step ∷ slots) 0 (step .request) ∷ l)
-    (given-is-owed (leftWaiting w step) slots (f .1)
+    ∙ ap (λ (l : List (Option Byte)). dueFrom w (step ∷ slots) 0 (step .request) ∷ l)
+    (given-is-due (leftWaiting w step) slots (f .1)
     ∙ ap (tabulate (length slots)) (fun-ext (λ t. given-later w step slots (f .0) t (requestAt slots t))))
 
-pub owed-from-nothing : (slots : List Step) (t : ℕ) (r : Option ℕ) → owedFrom (λ q. []) slots t r ≡ owedTo slots t r
-owed-from-nothing slots t none = refl
-owed-from-nothing slots t (some q) = refl
+pub due-from-nothing : (slots : List Step) (t : ℕ) (r : Option ℕ) → dueFrom (λ q. []) slots t r ≡ dueTo slots t r
+due-from-nothing slots t none = refl
+due-from-nothing slots t (some q) = refl
 
 -- Every byte that is owed had arrived by the slot of its request.
 pub arrived-in-time : (w : ℕ → List ℕ) (slots : List Step) → Finds w slots → (t q : ℕ) → requestAt slots t ≡ some q

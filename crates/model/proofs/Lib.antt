@@ -33,3 +33,5 @@ pub mod MissingFill
 pub mod Missing
 -- Demand 3.
 pub mod Demand
+-- The paper's numbers, computed.
+pub mod Numbers

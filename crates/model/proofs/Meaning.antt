@@ -4,17 +4,19 @@ use mathlib.Core.Path.{_≡_, refl, ap, _∙_}
 use mathlib.Core.Bool.{Bool, true, false, not}
 use mathlib.Core.List.{List, _++_}
 use mathlib.Core.Option.{Option, some, none}
-use Prim.Native.Nat.{ℕ, _+_, _-_, _*_, _<_}
+use Prim.Native.Nat.{ℕ, _+_, _-_, _*_, _<_, _≤_}
 use native.Mathlib.Omega.{arith}
-use lib.Dec.{eqb}
+use lib.Dec.{eqb, ltb}
 use lib.ListN.{length, drop, length-replicate}
-use borrow.Author.Tests.{eqb-true, eq-eqb, not-true}
+use borrow.Author.Tests.{ltb-true, ltb-false, ne-eqb, eqb-true, eq-eqb, not-true}
 use Rattle.model.specs.Words.{choose}
-use Rattle.model.specs.Sizes.{Sizes, Limits, Design, full, oneFewer, cycleTime}
-use Rattle.model.specs.State.{Byte, empty, State, fresh, valuesOf, countOf, tailBytes, headBytes}
-use Rattle.model.specs.Slot.{Call, without, oldestCell, deliveryOf, arriving, isOwed, tailLeft, moves, fullest}
-use Rattle.model.specs.Slot.{queueToWrite, refillQueue, queueToRead, joined, nothingToTake, accept}
-use Rattle.model.proofs.Words.{and-left, and-right, all-below-facts}
+use Rattle.model.specs.Sizes.{Sizes, sizes, Limits, Design, full, oneFewer, cycleTime}
+use Rattle.model.specs.State.{Byte, empty, held, owed, State, fresh, valuesOf, countOf, tailBytes, headBytes}
+use Rattle.model.specs.State.{blocks}
+use Rattle.model.specs.Slot.{Call, oldestOf, heldCell, youngestCell, arrivalFull, without, oldestCell}
+use Rattle.model.specs.Slot.{deliveryOf, arriving, isOwed, tailLeft, moves, fullest, queueToWrite, refillQueue}
+use Rattle.model.specs.Slot.{queueToRead, joined, nothingToTake, accept}
+use Rattle.model.proofs.Words.{by-test, and-left, and-right, all-below-facts}
 use Rattle.model.proofs.Bytes.{values-without-same}
 
 -- "A fresh state has all L cells empty": as many as its design has, L in the paper's and L - 1 with one fewer.
@@ -48,6 +50,11 @@ held-takes-from-tail x q t = ap (λ (b : Bool). choose b (x .tail) (without 1 q 
 pub held-byte-leaves-tail : (x : State) (q : ℕ) → isOwed x q ≡ false
     → valuesOf q (tailLeft x (some q)) ≡ drop 1 (valuesOf q (x .tail))
 held-byte-leaves-tail x q t = ap (valuesOf q) (held-takes-from-tail x q t) ∙ values-without-same 1 q (x .tail)
+
+pub held-byte-travels : (x : State) (q v : ℕ) → isOwed x q ≡ false → oldestOf q (x .tail) ≡ some v
+    → youngestCell x (some q) ≡ held q v
+held-byte-travels x q v t e =
+    ap (λ (b : Bool). choose b (owed q) (heldCell q (oldestOf q (x .tail)))) t ∙ ap (heldCell q) e
 
 pub owed-leaves-tail : (x : State) (q : ℕ) → isOwed x q ≡ true → tailLeft x (some q) ≡ x .tail
 owed-leaves-tail x q t = ap (λ (b : Bool). choose b (x .tail) (without 1 q (x .tail))) t
@@ -84,3 +91,19 @@ seven-only x arrival q e = (
 pub seven-there : (x : State) (arrival : Option Byte) (q : ℕ) → isOwed x q ≡ false
     → countOf q (x .tail ++ arriving arrival) ≡ 0 → nothingToTake x arrival (some q) ≡ true
 seven-there x arrival q t e = rw t (eq-eqb (countOf q (x .tail ++ arriving arrival)) 0 e)
+
+-- 5 comes exactly where the queue has no space left for the byte: its tail bytes and its blocks fill its K blocks.
+pub five-exactly : (x : State) (y : Byte)
+    → tailBytes x (y .queue) + x .sizes .b * blocks x (y .queue) ≤ x .sizes .K * x .sizes .b
+    → arrivalFull x (some y)
+    ≡ not (ltb (tailBytes x (y .queue) + x .sizes .b * blocks x (y .queue)) (x .sizes .K * x .sizes .b))
+five-exactly x y room =
+    by-test (ltb used all)
+    (λ t. rw t (ne-eqb used all (λ e. omega (arith, ltb-true used all t, e))))
+    (λ t. rw t (eq-eqb used all (omega (arith, ltb-false used all t))))
+  where
+    used : ℕ
+    used = tailBytes x (y .queue) + x .sizes .b * blocks x (y .queue)
+
+    all : ℕ
+    all = x .sizes .K * x .sizes .b

@@ -14,8 +14,8 @@ use Rattle.model.specs.Words.{tabulate}
 use Rattle.model.specs.Sizes.{Sizes, lookahead}
 use Rattle.model.specs.State.{Byte, valuesOf}
 use Rattle.model.specs.Slot.{asByte, arriving}
-use Rattle.model.specs.Lists.{Step, deliveries, arrivalsOf, requestsOf, owedTo, owedAt}
-use Rattle.model.specs.Demand.{ListMeets, Sentences}
+use Rattle.model.specs.Lists.{Step, deliveries, arrivalsOf, requestsOf, dueTo, dueAt}
+use Rattle.model.specs.Demand.{FixedDelay, Sentences}
 use Rattle.model.proofs.Words.{by-test}
 
 getD-tabulate : {A : Type 0} (n : ℕ) (f : ℕ → A) (t : ℕ) (d : A) → t < n → getD (tabulate n f) t d ≡ f t
@@ -66,22 +66,22 @@ arrivals-grow q (suc n) (step ∷ slots) =
       length-append (valuesOf q (arriving (step .arrival))) (arrivalsOf q slots),
     )
 
-pub sentences : (s : Sizes) (steps slots : List Step) → ListMeets s steps slots → Sentences s slots
-sentences s steps slots m = record {
+pub sentences : (s : Sizes) (slots : List Step) → FixedDelay s slots → Sentences s slots
+sentences s slots m = record {
   answered = λ t q r l.
       let there = element-at (arrivalsOf q slots) (requestsOf q (take t slots))
       (omega (arith, m .in-time t q r, arrivals-grow q (t + 1) slots)) in (
         there .0,
         there .1,
-        at t l ∙ ap (owedTo slots t) r ∙ ap (asByte q) (there .1),
+        at t l ∙ ap (dueTo slots t) r ∙ ap (asByte q) (there .1),
       );
-  silent = λ t r l. at t l ∙ ap (owedTo slots t) r;
+  silent = λ t r l. at t l ∙ ap (dueTo slots t) r;
   quiet-start = λ t l.
       ap (λ (d : List (Option Byte)). getD d t none) (m .delay)
-      ∙ line-first (lookahead s) (length slots) (owedAt slots) t l;
+      ∙ line-first (lookahead s) (length slots) (dueAt slots) t l;
 }
   where
-    at : (t : ℕ) → t + lookahead s < length slots → getD (deliveries slots) (t + lookahead s) none ≡ owedAt slots t
+    at : (t : ℕ) → t + lookahead s < length slots → getD (deliveries slots) (t + lookahead s) none ≡ dueAt slots t
     at t l =
         ap (λ (d : List (Option Byte)). getD d (t + lookahead s) none) (m .delay)
-        ∙ line-later (lookahead s) (length slots) (owedAt slots) t l
+        ∙ line-later (lookahead s) (length slots) (dueAt slots) t l

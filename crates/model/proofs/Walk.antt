@@ -1,6 +1,6 @@
 -- The scan as a walk that does not stop. Each queue has its head bytes as credits, and an Owed cell uses one. An Owed
 -- cell that finds none is an order for a block: it leaves its queue b - 1 credits, and the walk goes on. Every order
--- is due late enough, which is invariant I3: the jth order, at a place p slots and c cells away, has j × b ≤ c + p.
+-- comes late enough: with p slots since the last move, the jth order at place c has j × b ≤ c + p.
 use mathlib.Core.Path.{_≡_, ap, sym, _∙_, fun-ext, subst}
 use mathlib.Core.Bool.{false}
 use mathlib.Core.List.{List, [], _∷_, _++_}

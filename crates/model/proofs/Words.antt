@@ -8,7 +8,7 @@ use native.Mathlib.Omega.{arith}
 use lib.Dec.{eqb, leb}
 use lib.ListN.{getD}
 use borrow.Author.Tests.{eqb-true, eqb-false, eq-eqb, leb-true, le-leb}
-use Rattle.model.specs.Words.{update, between, allTrue, allOf, allBelow, All, someOf, when, firstRefusal}
+use Rattle.model.specs.Words.{update, between, allTrue, allOf, allBelow, All, when, firstRefusal}
 
 -- Cases of a value, each with the equation that it stands for.
 pub by-test : {A : Type 0} (t : Bool) → (t ≡ true → A) → (t ≡ false → A) → A
@@ -116,10 +116,6 @@ pub when-zero : (t : Bool) (n : ℕ) → when t (suc n) ≡ 0 → t ≡ false
 when-zero true n e = absurd (omega arith)
 when-zero false n e = refl
 
-pub some-later : {A : Type 0} (test : A → Bool) (x : A) (xs : List A) → someOf test xs ≡ true
-    → someOf test (x ∷ xs) ≡ true
-some-later test x xs e = by-test (test x) (λ t. rw t) (λ t. rw t e)
-
 -- A list of low numbers, and one more that is 0 unless one of them stands before it: the first is low.
 pub low-refusal : (most : ℕ) (ns : List ℕ) (n : ℕ) → All (λ (m : ℕ). m ≤ most) ns → (firstRefusal ns ≡ 0 → n ≡ 0)
     → firstRefusal (ns ++ n ∷ []) ≤ most
@@ -138,3 +134,13 @@ last-refusal [] zero e = refl
 last-refusal [] (suc n) e = refl
 last-refusal (zero ∷ ns) n e = last-refusal ns n e
 last-refusal (suc m ∷ ns) n e = absurd (omega (arith, e))
+
+-- A number that no refusal of a list is, the first is not.
+pub not-first : (bad : ℕ) (ns : List ℕ) → 1 ≤ bad → All (λ (n : ℕ). n ≡ bad → ⊥) ns → firstRefusal ns ≡ bad → ⊥
+not-first bad [] h f e = omega (arith, e)
+not-first bad (zero ∷ ns) h f e = not-first bad ns h (f .1) e
+not-first bad (suc n ∷ ns) h f e = f .0 e
+
+pub when-excluded : (bad : ℕ) (t : Bool) (n : ℕ) → 1 ≤ bad → (n ≡ bad → t ≡ false) → when t n ≡ bad → ⊥
+when-excluded bad true n h f e = true-not-false true refl (f e)
+when-excluded bad false n h f e = omega (arith, e)

@@ -1,4 +1,4 @@
--- Demand 3, and the laws of one slot that callers cite, as statements. Their proofs are in proofs/.
+-- Demand 3 as statements, over any limits of the sizes. Quotations are of demand 3 and of "Lists of slots".
 use mathlib.Core.Path.{_≡_}
 use mathlib.Core.Bool.{Bool, true}
 use mathlib.Core.List.{List, [], _∷_, _++_}
@@ -11,7 +11,7 @@ use Rattle.model.specs.Sizes.{Sizes, Limits, accepts, lookahead, tailSiz
 use Rattle.model.specs.Sizes.{oneFewer}
 use Rattle.model.specs.State.{byte}
 use Rattle.model.specs.Slot.{Call}
-use Rattle.model.specs.Lists.{Step, listOf, accepted, deliveries, arrivalsOf, requestsOf, requestAt, owedToAll}
+use Rattle.model.specs.Lists.{Step, listOf, accepted, deliveries, arrivalsOf, requestsOf, requestAt, dueToAll}
 
 -- "Both caches are looked at as each slot ends, the tail also just after the arrival joins it, the head also just
 -- after the read": "the tail cache never holds over Q(b - 1) + b bytes and the head cache never over 2Q(b - 1) + 1".
@@ -27,19 +27,28 @@ pub record NoMiss (step : Step) : Type 0 where
   pub not-9 : step .number ≡ 9 → ⊥
   pub not-10 : step .number ≡ 10 → ⊥
 
--- Demand 3 of one list: `steps` with the refused slots in it, `slots` the accepted ones.
--- `delay`: "slot t + L delivers" what slot t's request is owed, nothing where slot t has no request, "and neither do
--- slots 0 to L - 1": one equation for all deliveries of the list.
+-- The bytes of a list's accepted slots.
+-- `delay`: "slot t + L delivers" what is due to slot t's request, nothing where slot t has no request, "and neither
+-- do slots 0 to L - 1": one equation for all deliveries of the list.
 -- `in-time`: "that arrival always came in slot t or an earlier one".
-pub record ListMeets (s : Sizes) (steps : List Step) (slots : List Step) : Type 0 where
-  pub delay : deliveries slots ≡ take (length slots) (replicate (lookahead s) none ++ owedToAll slots)
+pub record FixedDelay (s : Sizes) (slots : List Step) : Type 0 where
+  pub delay : deliveries slots ≡ take (length slots) (replicate (lookahead s) none ++ dueToAll slots)
   pub in-time :
       (t q : ℕ) → requestAt slots t ≡ some q
       → requestsOf q (take t slots) < length (arrivalsOf q (take (t + 1) slots))
-  pub caches : All (CachesHold s) steps
-  pub no-miss : All NoMiss steps
 
--- The same, sentence by sentence: what slot t + L delivers.
+-- Demand 3 of one list. Beyond it: 3 never comes, and 2 only with a store that is too short, so that a list is not
+-- refused on account of what an earlier slot left.
+pub record ListMeets (limits : Limits) (s : Sizes) (store : List ℕ) (calls : List Call) : Type 0 where
+  pub bytes : FixedDelay s (accepted (listOf (full limits) s store calls))
+  pub caches : All (CachesHold s) (listOf (full limits) s store calls)
+  pub no-miss : All NoMiss (listOf (full limits) s store calls)
+  pub no-3 : All (λ (step : Step). step .number ≡ 3 → ⊥) (listOf (full limits) s store calls)
+  pub no-2 :
+      storeBytes s ≤ length store
+      → All (λ (step : Step). step .number ≡ 2 → ⊥) (listOf (full limits) s store calls)
+
+-- The same deliveries, sentence by sentence: what slot t + L delivers.
 -- `answered`: "where slot t has an accepted request, the nth of its queue, slot t + L delivers that queue and the
 -- byte of the nth accepted arrival of it, if the list has a slot t + L".
 -- `silent`: "where slot t has no accepted request, slot t + L delivers nothing".
@@ -56,7 +65,7 @@ pub record Sentences (s : Sizes) (slots : List Step) : Type 0 where
   pub quiet-start : (t : ℕ) → t < lookahead s → getD (deliveries slots) t none ≡ none
 
 -- "Some list there has a slot that answers 8", and this is the list, of Q × b + Q + Q(b - 1) slots: a block of
--- arrivals for each queue in turn, a request for each queue in turn, and idle slots.
+-- arrivals for each queue in turn, a request for each queue in turn, and idle slots. Its last slot answers 8.
 abbrev pub blockOfArrivals : ℕ → ℕ → List Call
 blockOfArrivals b q = replicate b (record { arrival = some (byte q 0); request = none })
 
@@ -85,7 +94,7 @@ pub record Demand-3 (limits : Limits) : Type 0 where
   pub every-list :
       (s : Sizes) (store : List ℕ) (calls : List Call)
       → accepts limits s ≡ true
-      → ListMeets s (listOf (full limits) s store calls) (accepted (listOf (full limits) s store calls))
+      → ListMeets limits s store calls
   pub every-sentence :
       (s : Sizes) (store : List ℕ) (calls : List Call)
       → accepts limits s ≡ true

@@ -1,4 +1,5 @@
--- The slot buffer of document 01, as definitions: one file for each of its sections, in its order.
+-- The slot buffer of document 01, as definitions. Sizes, State, Slot and Lists render its sections in its order; Words
+-- has what they share, Ideal the buffer as a user thinks of it, Demand the statements of demand 3.
 pub mod Words
 pub mod Sizes
 pub mod State

@@ -1,4 +1,4 @@
--- Document 01, "Lists of slots": a list of slots with the refused ones in it, and what each request is owed.
+-- Document 01, "Lists of slots": a list of slots with the refused ones in it, and what is due to each request.
 use mathlib.Core.List.{List, [], _∷_, _++_, map}
 use mathlib.Core.Option.{Option, some, none}
 use Prim.Native.Nat.{ℕ, zero, suc, _+_}
@@ -9,8 +9,9 @@ use Rattle.model.specs.Sizes.{Sizes, Design}
 use Rattle.model.specs.State.{Byte, State, fresh, valuesOf}
 use Rattle.model.specs.Slot.{Call, asByte, arriving, joined, refilled, Answer, slot}
 
--- One slot of a list: its number, what it took of its arrival and its request, its answer, state and store as it
--- ends, the tail's fill "just after the arrival joins it" and the head's "just after the read".
+-- One slot of a list: the number that it answers (0, or a refusal), what it took of its arrival and its request, its
+-- delivery and moves, state and store as it ends, the tail's fill "just after the arrival joins it" and the head's
+-- "just after the read".
 pub record Step : Type 0 where
   pub number : ℕ
   pub arrival : Option Byte
@@ -50,8 +51,8 @@ stepOf x store call a = record {
   readFill = readFillOf (a .number) x store call;
 }
 
--- "Each slot getting state and store exactly as the one before left them"; "a refused slot stays in the list and
--- passes on state and store as it got them".
+-- Demand 3: "each slot getting state and store exactly as the one before left them"; "a refused slot stays in the
+-- list and passes on state and store as it got them".
 abbrev pub run : Design → State → List ℕ → List Call → List Step
 run design x store [] = []
 run design x store (call ∷ calls) =
@@ -68,8 +69,8 @@ abbrev pub accepted : List Step → List Step
 accepted [] = []
 accepted (step ∷ steps) = choose (eqb (step .number) 0) (step ∷ accepted steps) (accepted steps)
 
--- Of accepted slots: what each delivers, the arrivals of a queue in order, how many requests of it, the request of
--- slot t.
+-- Of accepted slots: what each delivers, the arrivals of a queue in order, whether a request is of q (1) or not (0),
+-- how many requests of a queue, the request of slot t.
 abbrev pub deliveries : List Step → List (Option Byte)
 deliveries slots = map (λ step. step .delivered) slots
 
@@ -91,15 +92,15 @@ requestAt (step ∷ slots) zero = step .request
 requestAt (step ∷ slots) (suc t) = requestAt slots t
 
 -- "Where slot t has an accepted request, the nth of its queue, slot t + L delivers that queue and the byte of the nth
--- accepted arrival of it": what slot t's request is owed. Counted from 0, it is the request number that the queue's
--- requests before slot t come to.
-abbrev pub owedTo : List Step → ℕ → Option ℕ → Option Byte
-owedTo slots t none = none
-owedTo slots t (some q) = asByte q (getElem? (arrivalsOf q slots) (requestsOf q (take t slots)))
+-- accepted arrival of it": what is due to slot t's request. The nth request of q has n - 1 requests of q before slot
+-- t, and its byte is at place n - 1 of q's arrivals.
+abbrev pub dueTo : List Step → ℕ → Option ℕ → Option Byte
+dueTo slots t none = none
+dueTo slots t (some q) = asByte q (getElem? (arrivalsOf q slots) (requestsOf q (take t slots)))
 
-abbrev pub owedAt : List Step → ℕ → Option Byte
-owedAt slots t = owedTo slots t (requestAt slots t)
+abbrev pub dueAt : List Step → ℕ → Option Byte
+dueAt slots t = dueTo slots t (requestAt slots t)
 
--- What each of the slots 0, 1, .. is owed, in order.
-abbrev pub owedToAll : List Step → List (Option Byte)
-owedToAll slots = tabulate (length slots) (owedAt slots)
+-- What is due to each of the slots 0, 1, .., in order.
+abbrev pub dueToAll : List Step → List (Option Byte)
+dueToAll slots = tabulate (length slots) (dueAt slots)

@@ -29,7 +29,7 @@ without zero q xs = xs
 without (suc n) q [] = []
 without (suc n) q (x ∷ xs) = choose (eqb (x .queue) q) (without n q xs) (x ∷ without (suc n) q xs)
 
--- 1. "The oldest cell leaves."
+-- 1. "The oldest cell leaves." (There is none only with one cell fewer and b = 1.)
 abbrev pub oldestCell : List Cell → Cell
 oldestCell [] = empty
 oldestCell (cell ∷ cells) = cell
@@ -79,7 +79,8 @@ afterArrival arrival x = record {
 }
 
 -- 3. "The request takes the youngest cell. It is Owed if the queue's head bytes + b × blocks exceed its Owed cells.
--- Otherwise it is Held and takes the oldest tail byte of its queue. With no request the cell is empty."
+-- Otherwise it is Held and takes the oldest tail byte of its queue. With no request the cell is empty." In an
+-- accepted slot the test gives the same before and after step 1: an Owed cell that leaves takes a head byte with it.
 abbrev pub isOwed : State → ℕ → Bool
 isOwed x q = ltb (owedCells x q) (headBytes x q + x .sizes .b * blocks x q)
 
@@ -128,6 +129,7 @@ queueToWrite x = choose (moves x) (fullest (x .sizes .b) (tailBytes x) (x .sizes
 abbrev pub nextBlock : State → ℕ → ℕ
 nextBlock x q = (ringOf (x .rings) q .first + ringOf (x .rings) q .count) % x .sizes .K
 
+-- The store with these values from this place on, all other bytes as they were.
 abbrev pub placed : ℕ → List ℕ → List ℕ → List ℕ
 placed place values store = take place store ++ (values ++ drop (place + length values) store)
 

@@ -84,7 +84,8 @@ abbrev pub owedOf : ℕ → List Cell → ℕ
 owedOf q [] = 0
 owedOf q (cell ∷ cells) = owes q cell + owedOf q cells
 
--- What a state has of each queue: tail bytes, head bytes, Owed cells, its ring, its blocks in the slow store.
+-- What a state has of each queue: tail bytes, head bytes, Owed cells, its ring, its blocks in the slow store. A queue
+-- without a ring counts as empty; refusals 4 and 6 keep such queues out.
 abbrev pub tailBytes : State → ℕ → ℕ
 tailBytes x q = countOf q (x .tail)
 
@@ -151,8 +152,8 @@ margin x q = pos (headBytes x q) -ℤ pos (owedCells x q)
 abbrev pub critical : State → ℕ → Bool
 critical x q = ltZ (margin x q) (pos 0)
 
--- "Two states are the same when the items above are" the same; and the same but for their high marks, which the paper
--- leaves free within their range.
+-- "Two states are the same when the items above are": here that is equality. This is sameness but for the two high
+-- marks, which the paper leaves free within their range after an accepted slot.
 pub record SameButMarks (x y : State) : Type 0 where
   pub same-sizes : x .sizes ≡ y .sizes
   pub same-phase : x .phase ≡ y .phase

@@ -210,7 +210,7 @@ impl Buffer {
     }
 
     /// Whether a request of this queue takes no tail byte. The answer is the
-    /// same before and after step 1, which lowers both sides or neither.
+    /// same before and after step 1 of an accepted slot, which lowers both sides or neither.
     fn would_be_owed(&self, queue: usize) -> bool {
         let owed = self.cells.iter().filter(|&&cell| cell == Cell::Owed(queue)).count();
         self.head[queue].len() + self.sizes.b * self.rings[queue].count > owed

@@ -1,0 +1,2 @@
+-- Laws of the sizing rule and the limits.
+pub mod Laws

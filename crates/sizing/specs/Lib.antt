@@ -1,0 +1,2 @@
+-- What the sizing rule and the derived sizes promise.
+pub mod Says

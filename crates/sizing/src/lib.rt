@@ -1,0 +1,105 @@
+// The sizing rule, and the memories that sizes need: what a line card designer asks first.
+ghost use mathlib.Core.Path.{_≡_};
+ghost use Rattle.model.specs.Sizes.{sizes, paperLimits, accepts};
+ghost use Rattle.sizing.specs.Says.{SizingSays, DerivedSays};
+
+// A block of so many bytes, or refusal 11.
+pub enum Sizing {
+    Block(u8),
+    NoBlock,
+}
+
+// The cycle times of the memory grades in ns, grade 0 first.
+const CYCLE_TIMES: [usize; 16] = [
+    5,
+    10,
+    15,
+    20,
+    25,
+    30,
+    35,
+    40,
+    45,
+    50,
+    55,
+    60,
+    65,
+    70,
+    75,
+    80,
+];
+
+// The bytes of a block at `rate` Gb/s and a memory grade: rate × cycle time / 4, rounded up.
+pub fn block_size(rate: usize, grade: usize) -> Sizing
+    ensures { λ r. ⌜ SizingSays rate grade r ⌝ }
+{
+    if rate < 1 {
+        return Sizing::NoBlock;
+    }
+    if 100 < rate {
+        return Sizing::NoBlock;
+    }
+    if 15 < grade {
+        return Sizing::NoBlock;
+    }
+    let b = (rate * CYCLE_TIMES[grade] + 3) / 4;
+    if 128 < b {
+        return Sizing::NoBlock;
+    }
+    Sizing::Block(b as u8)
+}
+
+// Whether sizes are within the limits.
+pub fn accepted(queues: usize, block: usize, blocks: usize) -> bool
+    ensures { λ r. ⌜ r ≡ accepts paperLimits (sizes queues block blocks) ⌝ }
+{
+    if queues < 1 {
+        return false;
+    }
+    if 64 < queues {
+        return false;
+    }
+    if block < 1 {
+        return false;
+    }
+    if 128 < block {
+        return false;
+    }
+    if blocks < 1 {
+        return false;
+    }
+    if 255 < blocks {
+        return false;
+    }
+    queues * (block - 1) <= 2016
+}
+
+// Lookahead cells, and the bytes of tail cache, head cache and slow store.
+pub struct Memory {
+    pub lookahead: usize,
+    pub tail: usize,
+    pub head: usize,
+    pub store: usize,
+}
+
+// The memories, or refusal 1.
+pub enum Derived {
+    Needs(Memory),
+    NoSizes,
+}
+
+// What accepted sizes need.
+pub fn memory_sizes(queues: usize, block: usize, blocks: usize) -> Derived
+    ensures { λ r. ⌜ DerivedSays queues block blocks r ⌝ }
+{
+    if accepted(queues, block, blocks) {
+        let span = queues * (block - 1);
+        return Derived::Needs(Memory {
+            lookahead: span + 1,
+            tail: span + block,
+            head: 2 * span + 1,
+            store: queues * blocks * block,
+        });
+    }
+    Derived::NoSizes
+}

@@ -12,14 +12,13 @@ use borrow.Author.Tests.{ne-eqb}
 use Rattle.model.specs.Words.{tabulate}
 use Rattle.model.specs.Sizes.{Design}
 use Rattle.model.specs.State.{Byte, State, valuesOf}
-use Rattle.model.specs.Slot.{Call, asByte, arriving, Answer, slot}
-use Rattle.model.specs.Lists.{Step, stepOf, run, accepted, deliveries, arrivalsOf, asks, requestsOf, requestAt}
-use Rattle.model.specs.Lists.{dueTo}
+use Rattle.model.specs.Slot.{Call, asByte, arriving, Answer, accept}
+use Rattle.model.specs.Lists.{Chain, no-call, next-call, stepsOf, Step, stepOf, accepted, deliveries}
+use Rattle.model.specs.Lists.{arrivalsOf, asks, requestsOf, requestAt, dueTo}
 use Rattle.model.specs.Ideal.{Ideal, soonest, withArrival, given, idealSlot, standsFor, stream, IsIdealSlot}
 use Rattle.model.proofs.Words.{eqb-same, none-not-some}
 use Rattle.model.proofs.Rules.{Keeps}
-use Rattle.model.proofs.Accepted.{Outcome, was-refused, was-accepted, outcome}
-use Rattle.model.proofs.Kept.{slot-kept}
+use Rattle.model.proofs.Calls.{Told, told-refused, told-accepted, promised-told, told-kept}
 use Rattle.model.proofs.Streams.{line-length, first-append}
 use Rattle.model.proofs.IdealSlot.{accepted-is-ideal}
 
@@ -67,31 +66,30 @@ module _ (design : Design) where
       → 1 ≤ length (standsFor x store .line)
   line-long x store h v = omega (arith, line-length (stream x store) (x .cells), v .within .cells-long)
 
-  slot-delays : (x : State) (store : List ℕ) (call : Call) (a : Answer) (rest : List Step)
-      → 1 ≤ design .cellCount (x .sizes) → Keeps design x → Outcome design x store call a
+  call-delays : (x : State) (store : List ℕ) (call : Call) (a : Answer) (rest : List Step)
+      → 1 ≤ design .cellCount (x .sizes) → Keeps design x → Told design x store call a
       → Delays (standsFor (a .state) (a .store)) (accepted rest)
       → Delays (standsFor x store) (accepted (stepOf x store call a ∷ rest))
-  slot-delays x store call a rest h v (was-refused n e) d = rw (ne-eqb (suc n) 0 (λ z. omega arith)) d
-  slot-delays x store call a rest h v (was-accepted f) d =
+  call-delays x store call a rest h v (told-refused n e) d = rw (ne-eqb (suc n) 0 (λ z. omega arith)) d
+  call-delays x store call a rest h v (told-accepted m n f r) d =
       delays-more (standsFor x store) (stepOf x store call a) (accepted rest) (line-long x store h v)
       (ideal .delivers) (ideal .byte-waits)
       (subst (λ (i : Ideal). Delays i (accepted rest)) (ideal .leaves) d)
     where
-      ideal : IsIdealSlot x store call a
+      ideal : IsIdealSlot x store call (accept x store call)
       ideal = accepted-is-ideal design x store call h (f .judged)
 
-  pub run-delays : (x : State) (store : List ℕ) (calls : List Call) → 1 ≤ design .cellCount (x .sizes) → Keeps design x
-      → Delays (standsFor x store) (accepted (run design x store calls))
-  run-delays x store [] h v = record { delivers = refl; finds = tt }
-  run-delays x store (call ∷ calls) h v =
-      let k = slot-kept design x store call h v in
-      slot-delays x store call (slot design x store call)
-      (run design (slot design x store call .state) (slot design x store call .store) calls) h v
-      (outcome design x store call)
-      (run-delays (slot design x store call .state) (slot design x store call .store) calls
-      (rw (k .same-sizes) h) (k .kept))
+  pub chain-delays : {x : State} {store : List ℕ} {calls : List Call} {answers : List Answer}
+      → 1 ≤ design .cellCount (x .sizes) → Keeps design x → Chain design x store calls answers
+      → Delays (standsFor x store) (accepted (stepsOf x store calls answers))
+  chain-delays h v no-call = record { delivers = refl; finds = tt }
+  chain-delays h v (next-call {x = x} {store = store} {call = call} {calls = calls} {a = a} {answers = answers} p c) =
+      let t = promised-told design x store call a p in
+      let k = told-kept design x store call a h v t in
+      call-delays x store call a (stepsOf (a .state) (a .store) calls answers) h v t
+      (chain-delays (rw (k .same-sizes) h) (k .kept) c)
 
--- What a request was given is what it is owed, where `w` waited before the list began.
+-- What a request was given is what is due to it, where `w` waited before the list began.
 abbrev dueFrom : (ℕ → List ℕ) → List Step → ℕ → Option ℕ → Option Byte
 dueFrom w slots t none = none
 dueFrom w slots t (some q) = asByte q (getElem? (w q ++ arrivalsOf q slots) (requestsOf q (take t slots)))

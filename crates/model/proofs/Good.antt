@@ -15,14 +15,14 @@ use Rattle.model.specs.State.{Byte, State, fresh, ringOf, keeps}
 use Rattle.model.specs.Slot.{Call, afterDelivery, moves, queueToWrite, afterWrite, queueToRead, blockAt}
 use Rattle.model.specs.Slot.{bytesFor, headRead, afterRead, afterPhase, joined, asked, wrote, wroteStore}
 use Rattle.model.specs.Slot.{refilled, arrivalUnknown, arrivalFull, requestUnknown, nothingToTake, tailFull}
-use Rattle.model.specs.Slot.{headFull, refusal, Answer, accept, slot}
+use Rattle.model.specs.Slot.{headFull, refusal, Answer, accept}
 use Rattle.model.proofs.Words.{by-test, none-not-some, low-refusal, when-le}
 use Rattle.model.proofs.Bytes.{length-for}
 use Rattle.model.proofs.Meaning.{move-writes-fullest, no-move-no-write, move-reads-scan, no-move-no-read}
 use Rattle.model.proofs.Rules.{Rules, Keeps, keeps-fresh}
-use Rattle.model.proofs.Accepted.{Judged, earlyRefusals, judged-facts, Outcome, was-refused, was-accepted}
-use Rattle.model.proofs.Accepted.{outcome}
-use Rattle.model.proofs.Kept.{rules-2, rules-3, rules-written, rules-refilled, block-whole, accept-kept}
+use Rattle.model.proofs.Accepted.{Judged, earlyRefusals, judged-facts}
+use Rattle.model.proofs.Kept.{Kept, rules-2, rules-3, rules-written, rules-refilled, block-whole, accept-kept}
+use Rattle.model.proofs.Calls.{Told, told-refused, told-accepted, told-kept}
 use Rattle.model.proofs.Invariant.{Invariant, invariant-fresh, invariant-delivered, invariant-arrived}
 use Rattle.model.proofs.Invariant.{invariant-asked, invariant-wrote, invariant-read, oldest-covered}
 use Rattle.model.proofs.Invariant.{head-bounded}
@@ -180,18 +180,41 @@ module _ (limits : Limits) (x : State) (store : List ℕ) (call : Call) (good : 
       )
       (λ e. rw (no-10 limits x store call good (judged-facts (full limits) x store call e)))
 
--- A slot on a good state: its number, and the state that it leaves.
-pub record GoodSlot (limits : Limits) (x : State) (a : Answer) : Type 0 where
+-- A call on a good state: its number, and the state that it leaves, whatever marks it chose.
+pub record GoodCall (limits : Limits) (x : State) (store : List ℕ) (a : Answer) : Type 0 where
   pub good : Good limits (a .state)
   pub low : a .number ≤ 7
   pub same-sizes : a .state .sizes ≡ x .sizes
+  pub same-length : length (a .store) ≡ length store
 
-pub slot-good : (limits : Limits) (x : State) (store : List ℕ) (call : Call) → Good limits x
-    → GoodSlot limits x (slot (full limits) x store call)
-slot-good limits x store call good = go (slot (full limits) x store call) (outcome (full limits) x store call)
+pub told-good : (limits : Limits) (x : State) (store : List ℕ) (call : Call) (a : Answer) → Good limits x
+    → Told (full limits) x store call a → GoodCall limits x store a
+told-good limits x store call a g (told-refused n e) = record {
+  good = g;
+  low = omega (arith, e, refusal-low limits x store call g);
+  same-sizes = refl;
+  same-length = refl;
+}
+told-good limits x store call a g (told-accepted m n f r) = record {
+  good = record {
+    kept = k .kept;
+    invariant = record {
+      covered = v .covered;
+      owed-few = v .owed-few;
+      orders-late = v .orders-late;
+      tail-light = v .tail-light;
+    };
+  };
+  low = omega arith;
+  same-sizes = refl;
+  same-length = k .same-length;
+}
   where
-    go : (a : Answer) → Outcome (full limits) x store call a → GoodSlot limits x a
-    go a (was-refused n e) =
-        record { good = good; low = omega (arith, e, refusal-low limits x store call good); same-sizes = refl }
-    go a (was-accepted f) =
-        record { good = accept-good limits x store call good (f .judged); low = omega arith; same-sizes = refl }
+    k : Kept (full limits) x store a
+    k = told-kept (full limits) x store call a (omega arith) (g .kept) (told-accepted m n f r)
+
+    next : State
+    next = accept x store call .state
+
+    v : Invariant (next .phase) (next .phase) (next .phase) next
+    v = accept-good limits x store call g (f .judged) .invariant

@@ -16,6 +16,7 @@ pub mod Rings
 pub mod Rules
 pub mod Accepted
 pub mod Kept
+pub mod Calls
 -- Why 8, 9 and 10 never come: the walk of orders and the invariant of a list.
 pub mod Walk
 pub mod Invariant

@@ -22,14 +22,14 @@ pub record AgreeButMarks (a c : Answer) : Type 0 where
   pub same-state : SameButMarks (a .state) (c .state)
   pub same-store : a .store ≡ c .store
 
-abbrev stateOf : Sizes → ℕ → List Byte → List Byte → List Cell → List Ring → ℕ → ℕ → State
+abbrev pub stateOf : Sizes → ℕ → List Byte → List Byte → List Cell → List Ring → ℕ → ℕ → State
 stateOf s p t h c r m n = record
     { sizes = s; phase = p; tail = t; head = h; cells = c; rings = r; tailMark = m; headMark = n }
 
-abbrev withMarks : ℕ → ℕ → State → State
+abbrev pub withMarks : ℕ → ℕ → State → State
 withMarks m n x = stateOf (x .sizes) (x .phase) (x .tail) (x .head) (x .cells) (x .rings) m n
 
-remarked : (x y : State) → SameButMarks x y → withMarks (y .tailMark) (y .headMark) x ≡ y
+pub remarked : (x y : State) → SameButMarks x y → withMarks (y .tailMark) (y .headMark) x ≡ y
 remarked x y s =
     ap (λ (z : Sizes). stateOf z (x .phase) (x .tail) (x .head) (x .cells) (x .rings) m n) (s .same-sizes)
     ∙ ap (λ (z : ℕ). stateOf (y .sizes) z (x .tail) (x .head) (x .cells) (x .rings) m n) (s .same-phase)

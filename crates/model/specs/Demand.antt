@@ -9,9 +9,10 @@ use lib.ListN.{length, take, replicate, getD, getElem?}
 use Rattle.model.specs.Words.{All, someOf}
 use Rattle.model.specs.Sizes.{Sizes, Limits, accepts, lookahead, tailSize, headSize, storeBytes, span, full}
 use Rattle.model.specs.Sizes.{oneFewer}
-use Rattle.model.specs.State.{byte}
-use Rattle.model.specs.Slot.{Call}
-use Rattle.model.specs.Lists.{Step, listOf, accepted, deliveries, arrivalsOf, requestsOf, requestAt, dueToAll}
+use Rattle.model.specs.State.{byte, fresh}
+use Rattle.model.specs.Slot.{Call, Answer}
+use Rattle.model.specs.Lists.{Step, Chain, stepsOf, listOf, accepted, deliveries, arrivalsOf, requestsOf}
+use Rattle.model.specs.Lists.{requestAt, dueToAll}
 
 -- "Both caches are looked at as each slot ends, the tail also just after the arrival joins it, the head also just
 -- after the read": "the tail cache never holds over Q(b - 1) + b bytes and the head cache never over 2Q(b - 1) + 1".
@@ -39,14 +40,12 @@ pub record FixedDelay (s : Sizes) (slots : List Step) : Type 0 where
 
 -- Demand 3 of one list. Beyond it: 3 never comes, and 2 only with a store that is too short, so that a list is not
 -- refused on account of what an earlier slot left.
-pub record ListMeets (limits : Limits) (s : Sizes) (store : List ℕ) (calls : List Call) : Type 0 where
-  pub bytes : FixedDelay s (accepted (listOf (full limits) s store calls))
-  pub caches : All (CachesHold s) (listOf (full limits) s store calls)
-  pub no-miss : All NoMiss (listOf (full limits) s store calls)
-  pub no-3 : All (λ (step : Step). step .number ≡ 3 → ⊥) (listOf (full limits) s store calls)
-  pub no-2 :
-      storeBytes s ≤ length store
-      → All (λ (step : Step). step .number ≡ 2 → ⊥) (listOf (full limits) s store calls)
+pub record ListMeets (s : Sizes) (store : List ℕ) (steps : List Step) : Type 0 where
+  pub bytes : FixedDelay s (accepted steps)
+  pub caches : All (CachesHold s) steps
+  pub no-miss : All NoMiss steps
+  pub no-3 : All (λ (step : Step). step .number ≡ 3 → ⊥) steps
+  pub no-2 : storeBytes s ≤ length store → All (λ (step : Step). step .number ≡ 2 → ⊥) steps
 
 -- The same deliveries, sentence by sentence: what slot t + L delivers.
 -- `answered`: "where slot t has an accepted request, the nth of its queue, slot t + L delivers that queue and the
@@ -89,12 +88,18 @@ answers8 step = eqb (step .number) 8
 abbrev pub Misses : Limits → Sizes → List ℕ → Type 0
 Misses limits s store = someOf answers8 (listOf (oneFewer limits) s store (missingList s)) ≡ true
 
--- Demand 3: for every list of slots, with any store; and the list that misses with one cell fewer.
+-- Demand 3: for every list of slots, with any store; for any calls that keep a slot's promise, whatever high marks
+-- they choose; and the list that misses with one cell fewer.
 pub record Demand-3 (limits : Limits) : Type 0 where
   pub every-list :
       (s : Sizes) (store : List ℕ) (calls : List Call)
       → accepts limits s ≡ true
-      → ListMeets limits s store calls
+      → ListMeets s store (listOf (full limits) s store calls)
+  pub every-chain :
+      (s : Sizes) (store : List ℕ) (calls : List Call) (answers : List Answer)
+      → accepts limits s ≡ true
+      → Chain (full limits) (fresh (full limits) s) store calls answers
+      → ListMeets s store (stepsOf (fresh (full limits) s) store calls answers)
   pub every-sentence :
       (s : Sizes) (store : List ℕ) (calls : List Call)
       → accepts limits s ≡ true

@@ -1,4 +1,5 @@
 -- Document 01, "Lists of slots": a list of slots with the refused ones in it, and what is due to each request.
+use mathlib.Core.Path.{_≡_}
 use mathlib.Core.List.{List, [], _∷_, _++_, map}
 use mathlib.Core.Option.{Option, some, none}
 use Prim.Native.Nat.{ℕ, zero, suc, _+_}
@@ -6,7 +7,7 @@ use lib.Dec.{eqb}
 use lib.ListN.{length, take, getElem?}
 use Rattle.model.specs.Words.{choose, tabulate}
 use Rattle.model.specs.Sizes.{Sizes, Design}
-use Rattle.model.specs.State.{Byte, State, fresh, valuesOf}
+use Rattle.model.specs.State.{Byte, State, fresh, valuesOf, SameButMarks, MarksInRange}
 use Rattle.model.specs.Slot.{Call, asByte, arriving, joined, refilled, Answer, slot}
 
 -- One slot of a list: the number that it answers (0, or a refusal), what it took of its arrival and its request, its
@@ -58,6 +59,32 @@ run design x store [] = []
 run design x store (call ∷ calls) =
     stepOf x store call (slot design x store call)
     ∷ run design (slot design x store call .state) (slot design x store call .store) calls
+
+-- What a call of a slot promises: "its answer, the whole state and the whole store. Only the two high marks after an
+-- accepted slot are left free, and the contract says of each that it is at least the present fill and at most the
+-- cache size." On a refusal the state is the very one that was given.
+pub record Promised (design : Design) (x : State) (store : List ℕ) (call : Call) (a : Answer) : Type 0 where
+  pub number-is : a .number ≡ slot design x store call .number
+  pub delivered-is : a .delivered ≡ slot design x store call .delivered
+  pub written-is : a .written ≡ slot design x store call .written
+  pub read-is : a .read ≡ slot design x store call .read
+  pub store-is : a .store ≡ slot design x store call .store
+  pub state-is : SameButMarks (slot design x store call .state) (a .state)
+  pub marks-are : a .number ≡ 0 → MarksInRange (a .state)
+  pub as-given : (a .number ≡ 0 → ⊥) → a .state ≡ x
+
+-- Any calls of which each keeps that promise, on state and store exactly as the one before left them.
+pub data Chain (design : Design) : State → List ℕ → List Call → List Answer → Type 0 where
+  no-call : {x : State} {store : List ℕ} → Chain design x store [] []
+  next-call : {x : State} {store : List ℕ} {call : Call} {calls : List Call} {a : Answer} {answers : List Answer}
+      → Promised design x store call a
+      → Chain design (a .state) (a .store) calls answers
+      → Chain design x store (call ∷ calls) (a ∷ answers)
+
+abbrev pub stepsOf : State → List ℕ → List Call → List Answer → List Step
+stepsOf x store [] answers = []
+stepsOf x store (call ∷ calls) [] = []
+stepsOf x store (call ∷ calls) (a ∷ answers) = stepOf x store call a ∷ stepsOf (a .state) (a .store) calls answers
 
 -- "The list of demand 3 is a fresh state of accepted sizes, a store with any bytes in it, then any number of slots,
 -- none included."

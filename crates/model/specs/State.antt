@@ -3,7 +3,7 @@ use mathlib.Core.Path.{_≡_}
 use mathlib.Core.Bool.{Bool, true, not}
 use mathlib.Core.List.{List, [], _∷_}
 use mathlib.Core.Option.{Option, some, none}
-use Prim.Native.Nat.{ℕ, _+_, _*_}
+use Prim.Native.Nat.{ℕ, _+_, _*_, _≤_}
 use lib.Dec.{eqb, ltb, leb}
 use lib.IntN.{ℤ, pos, _-ℤ_}
 use lib.Signed.{ltZ}
@@ -151,6 +151,13 @@ margin x q = pos (headBytes x q) -ℤ pos (owedCells x q)
 
 abbrev pub critical : State → ℕ → Bool
 critical x q = ltZ (margin x q) (pos 0)
+
+-- "Two high marks, one for each cache, each at least the present fill and at most the cache size."
+pub record MarksInRange (x : State) : Type 0 where
+  pub tail-low : length (x .tail) ≤ x .tailMark
+  pub tail-high : x .tailMark ≤ tailSize (x .sizes)
+  pub head-low : length (x .head) ≤ x .headMark
+  pub head-high : x .headMark ≤ headSize (x .sizes)
 
 -- "Two states are the same when the items above are": here that is equality. This is sameness but for the two high
 -- marks, which the paper leaves free within their range after an accepted slot.

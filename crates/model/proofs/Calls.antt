@@ -103,8 +103,14 @@ slot-promised design x store call h v = record {
   written-is = refl;
   read-is = refl;
   store-is = refl;
-  state-is = record
-      { same-sizes = refl; same-phase = refl; same-tail = refl; same-head = refl; same-cells = refl; same-rings = refl };
+  state-is = record {
+    same-sizes = refl;
+    same-phase = refl;
+    same-tail = refl;
+    same-head = refl;
+    same-cells = refl;
+    same-rings = refl;
+  };
   marks-are = λ e. record {
     tail-low = k .kept .tail-mark .0;
     tail-high = k .kept .tail-mark .1;

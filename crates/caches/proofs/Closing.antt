@@ -1,0 +1,70 @@
+-- A loop that closes entries up over place p: what it keeps, and that the bytes are then those without the oldest.
+use mathlib.Core.Path.{_≡_, refl, ap, sym, _∙_}
+use mathlib.Core.List.{List, _∷_, [], _++_, append-assoc, append-nil}
+use Prim.Native.Nat.{ℕ, _+_, _%_, _≤_, _<_}
+use native.Mathlib.Numerals.{add-one}
+use native.Mathlib.Omega.{arith}
+use lib.ListN.{length, take, drop, set, getD, length-set, drop-of-length-le}
+use lib.Seq.{length-take-le, drop-append-le, getD-set-other}
+use Rattle.model.specs.State.{countOf}
+use Rattle.caches.specs.Views.{byteOf, bytesIn}
+use Rattle.caches.specs.Says.{placeOf, ClosedUp, TookOldest}
+use Rattle.caches.proofs.Entries.{take-more, take-stored, bytes-length, byte-at, bytes-closed}
+use Rattle.caches.proofs.Places.{without-oldest, oldest-within, oldest-is}
+
+-- The entries have closed up over place p as far as place i, and those after place i are as they were.
+pub record ClosedTo (p i : ℕ) (before after : List ℕ) : Type 0 where
+  pub front : take i after ≡ take p before ++ drop (p + 1) (take (i + 1) before)
+  pub rest : (k : ℕ) → i < k → getD after k 0 ≡ getD before k 0
+  pub long : length after ≡ length before
+
+pub closing-starts : (p : ℕ) (xs : List ℕ) → p < length xs → ClosedTo p p xs xs
+closing-starts p xs h =
+    let none-yet : drop (p + 1) (take (p + 1) xs) ≡ [] =
+    drop-of-length-le (take (p + 1) xs) {i = p + 1} (omega (arith, length-take-le (p + 1) xs (omega arith))) in
+    record {
+      front = rw none-yet (sym (append-nil (take p xs)));
+      rest = λ k l. refl;
+      long = refl;
+    }
+
+module _ (p i : ℕ) (before after : List ℕ) (l : p ≤ i) (h : i + 1 < length before) (c : ClosedTo p i before after) where
+  -- The entry at place i + 1 joins the front.
+  joins : drop (p + 1) (take (i + 1 + 1) before) ≡ drop (p + 1) (take (i + 1) before) ++ getD before (i + 1) 0 ∷ []
+  joins =
+      rw (take-more (i + 1) before h)
+      (drop-append-le (p + 1) (take (i + 1) before) (getD before (i + 1) 0 ∷ [])
+      (omega (arith, length-take-le (i + 1) before (omega arith))))
+
+  moved : take (i + 1) (set after i (getD after (i + 1) 0)) ≡ take i after ++ getD before (i + 1) 0 ∷ []
+  moved =
+      take-stored i after (omega (arith, c .long)) (getD after (i + 1) 0)
+      ∙ ap (λ (v : ℕ). take i after ++ v ∷ []) (c .rest (i + 1) (omega arith))
+
+  pub closes-one : ClosedTo p (i + 1) before (set after i (getD after (i + 1) 0))
+  closes-one = record {
+    front = moved ∙ rw (c .front, joins) (append-assoc (take p before) (drop (p + 1) (take (i + 1) before)) _);
+    rest = λ k m.
+        getD-set-other after i k (getD after (i + 1) 0) 0 (λ e. omega (arith, e, m)) ∙ c .rest k (omega arith);
+    long = length-set after i (getD after (i + 1) 0) ∙ c .long;
+  }
+
+-- Closing up over the oldest byte of a queue takes it out.
+module _ (q n : ℕ) (before : List ℕ) (h : n ≤ length before) (some-there : 1 ≤ countOf q (bytesIn n before)) where
+  pub oldest-below : placeOf q (bytesIn n before) < n
+  oldest-below = omega (arith, oldest-within q (bytesIn n before) some-there, bytes-length n before h)
+
+  pub took-oldest : (p : ℕ) (after : List ℕ) → p ≡ placeOf q (bytesIn n before) → ClosedUp p n before after
+      → TookOldest n q before after (getD before p 0 % 256)
+  unfolding byteOf
+  took-oldest p after e c =
+      let l : p < n = omega (arith, e, oldest-below) in
+      record {
+        left =
+            bytes-closed p n before after (omega arith) c
+            ∙ rw (e, add-one) (sym (without-oldest q (bytesIn n before)));
+        value-is =
+            oldest-is q (bytesIn n before) (byteOf 0) some-there
+            ∙ rw (← e, byte-at n before p l);
+        same-length = c .same-length;
+      }

@@ -1,0 +1,172 @@
+-- A pass that sends the b oldest bytes of a queue to the store and closes the others up: what it keeps, byte by byte.
+use mathlib.Core.Path.{_≡_, refl, ap, sym, _∙_}
+use mathlib.Core.Bool.{true}
+use mathlib.Core.List.{List, [], _∷_, _++_, append-assoc, append-nil}
+use Prim.Native.Nat.{ℕ, zero, suc, _+_, _-_, _/_, _%_, _≤_, _<_}
+use native.Mathlib.Omega.{arith}
+use lib.Dec.{eqb}
+use lib.ListN.{length, take, drop, set, getD, length-append, length-take, length-set, take-append-drop}
+use lib.Seq.{take-nil, take-all, length-take-le, take-append-le, drop-cons, set-at, getD-set-other}
+use borrow.Author.Tests.{eq-eqb, eqb-true}
+use Rattle.model.specs.State.{Byte, valuesOf, countOf}
+use Rattle.model.specs.Slot.{without, placed}
+use Rattle.model.proofs.Words.{by-test}
+use Rattle.model.proofs.Bytes.{values-append}
+use Rattle.caches.specs.Views.{byteOf, bytesIn}
+use Rattle.caches.specs.Says.{WroteOut}
+use Rattle.caches.proofs.Entries.{bytes-none, bytes-more, bytes-stored}
+
+-- One byte more in the cache: it is one of the n oldest of its queue, or it stays.
+without-nil : (n q : ℕ) → without n q [] ≡ []
+without-nil zero q = refl
+without-nil (suc n) q = refl
+
+without-sent : (n q : ℕ) (xs : List Byte) (y : Byte) → eqb (y .queue) q ≡ true → countOf q xs < n
+    → without n q (xs ++ y ∷ []) ≡ without n q xs
+without-sent zero q xs y t h = absurd (omega arith)
+without-sent (suc n) q [] y t h = rw t (without-nil n q)
+without-sent (suc n) q (x ∷ xs) y t h =
+    by-test (eqb (x .queue) q)
+    (λ u. rw u (without-sent n q xs y t (omega (arith, rw u at h))))
+    (λ u. rw u (ap (λ (zs : List Byte). x ∷ zs) (without-sent (suc n) q xs y t (rw u at h))))
+
+without-kept : (n q : ℕ) (xs : List Byte) (y : Byte) → (eqb (y .queue) q ≡ true → n ≤ countOf q xs)
+    → without n q (xs ++ y ∷ []) ≡ without n q xs ++ y ∷ []
+without-kept zero q xs y h = refl
+without-kept (suc n) q [] y h =
+    by-test (eqb (y .queue) q)
+    (λ t. absurd (omega (arith, h t)))
+    (λ t. rw t)
+without-kept (suc n) q (x ∷ xs) y h =
+    by-test (eqb (x .queue) q)
+    (λ u. rw u (without-kept n q xs y (λ t. omega (arith, rw u at (h t)))))
+    (λ u. rw u (ap (λ (zs : List Byte). x ∷ zs) (without-kept (suc n) q xs y (λ t. rw u at (h t)))))
+
+values-sent : (n q : ℕ) (xs : List Byte) (y : Byte) → eqb (y .queue) q ≡ true → countOf q xs < n
+    → take n (valuesOf q (xs ++ y ∷ [])) ≡ take n (valuesOf q xs) ++ y .value ∷ []
+values-sent n q xs y t h =
+    let all : valuesOf q (xs ++ y ∷ []) ≡ valuesOf q xs ++ y .value ∷ [] = values-append q xs (y ∷ []) ∙ rw t in
+    let few : length (valuesOf q xs ++ y .value ∷ []) ≤ n = simp length-append (omega arith) in
+    rw (all, take-all n (valuesOf q xs ++ y .value ∷ []) few, take-all n (valuesOf q xs) (omega arith))
+
+values-kept : (n q : ℕ) (xs : List Byte) (y : Byte) → (eqb (y .queue) q ≡ true → n ≤ countOf q xs)
+    → take n (valuesOf q (xs ++ y ∷ [])) ≡ take n (valuesOf q xs)
+values-kept n q xs y h =
+    ap (take n) (values-append q xs (y ∷ []))
+    ∙ by-test (eqb (y .queue) q)
+    (λ t. rw t (take-append-le n (valuesOf q xs) (y .value ∷ []) (h t)))
+    (λ t. rw t (ap (take n) (append-nil (valuesOf q xs))))
+
+-- One value more in the store, behind those that were placed.
+placed-none : (place : ℕ) (store : List ℕ) → store ≡ placed place [] store
+placed-none place store = let e : place + 0 ≡ place = omega arith in rw (e, take-append-drop)
+
+placed-more : (place : ℕ) (vs store : List ℕ) (n v : ℕ) → n ≡ length vs → place + n < length store
+    → set (placed place vs store) (place + n) v ≡ placed place (vs ++ v ∷ []) store
+placed-more place vs store n v e h =
+    let front : length (take place store ++ vs) ≡ place + n = simp (length-append, length-take) (omega arith) in
+    let next : place + length (vs ++ v ∷ []) ≡ suc (place + n) = simp length-append (omega arith) in
+    let after = drop (suc (place + n)) store in
+    let old = getD store (place + n) 0 in
+    rw (← e, next, drop-cons store (place + n) 0 h, ← (append-assoc (take place store) vs (old ∷ after)))
+    (set-at (take place store ++ vs) old after v (place + n) front ∙ simp append-assoc)
+
+-- The pass has seen the first i entries: `gone` of them are in the store, the others have closed up.
+pub record Passed (n q b place : ℕ) (before store₀ : List ℕ) (after store : List ℕ) (gone i : ℕ) : Type 0 where
+  pub within : i ≤ n
+  pub gone-le : gone ≤ i
+  pub gone-is : gone ≡ length (take b (valuesOf q (bytesIn i before)))
+  pub kept-is : bytesIn (i - gone) after ≡ without b q (bytesIn i before)
+  pub rest : (k : ℕ) → i ≤ k → getD after k 0 ≡ getD before k 0
+  pub stored-is : store ≡ placed place (take b (valuesOf q (bytesIn i before))) store₀
+  pub long : length after ≡ length before
+  pub store-long : length store ≡ length store₀
+
+module _ (n q b place : ℕ) (before store₀ : List ℕ) where
+  pub pass-starts : Passed n q b place before store₀ before store₀ 0 0
+  pass-starts = record {
+    within = omega arith;
+    gone-le = omega arith;
+    gone-is = rw (bytes-none before, take-nil b);
+    kept-is = rw (bytes-none before) (sym (without-nil b q));
+    rest = λ k l. refl;
+    stored-is = rw (bytes-none before, take-nil b) (placed-none place store₀);
+    long = refl;
+    store-long = refl;
+  }
+
+  module _ (h : n ≤ length before) (room : place + b ≤ length store₀) (after store : List ℕ) (gone i : ℕ)
+      (w : Passed n q b place before store₀ after store gone i) (l : i < n) where
+    abbrev seen : List Byte
+    seen = bytesIn i before
+
+    abbrev next : Byte
+    next = byteOf (getD before i 0)
+
+    more : bytesIn (i + 1) before ≡ seen ++ next ∷ []
+    more = bytes-more i before (omega arith)
+
+    same : getD after i 0 ≡ getD before i 0
+    same = w .rest i (omega arith)
+
+    pub pass-sends : getD after i 0 / 256 ≡ q → gone < b
+        → Passed n q b place before store₀ after (set store (place + gone) (getD after i 0 % 256)) (gone + 1) (i + 1)
+    unfolding byteOf
+    pass-sends e m =
+        let t : eqb (next .queue) q ≡ true = eq-eqb (getD before i 0 / 256) q (rw same at e) in
+        let few : countOf q seen < b = omega (arith, simp length-take at (w .gone-is)) in
+        let sent : take b (valuesOf q (bytesIn (i + 1) before)) ≡ take b (valuesOf q seen) ++ next .value ∷ [] =
+        rw more (values-sent b q seen next t few) in
+        let d : i + 1 - (gone + 1) ≡ i - gone = omega (arith, w .gone-le) in
+        record {
+          within = omega arith;
+          gone-le = omega (arith, w .gone-le);
+          gone-is = rw sent (simp length-append (omega (arith, w .gone-is)));
+          kept-is = rw (d, more, without-sent b q seen next t few) (w .kept-is);
+          rest = λ k g. w .rest k (omega arith);
+          stored-is =
+              rw (same, sent, w .stored-is)
+              (placed-more place (take b (valuesOf q seen)) store₀ gone (next .value) (w .gone-is) (omega arith));
+          long = w .long;
+          store-long = length-set store (place + gone) (getD after i 0 % 256) ∙ w .store-long;
+        }
+
+    pub pass-keeps : (getD after i 0 / 256 ≡ q → b ≤ gone)
+        → Passed n q b place before store₀ (set after (i - gone) (getD after i 0)) store gone (i + 1)
+    unfolding byteOf
+    pass-keeps e =
+        let t : (eqb (next .queue) q ≡ true → b ≤ countOf q seen) =
+        (λ u. omega (
+          arith,
+          simp length-take at (w .gone-is),
+          e (ap (λ (x : ℕ). x / 256) same ∙ eqb-true (getD before i 0 / 256) q u),
+        )) in
+        let sent : take b (valuesOf q (bytesIn (i + 1) before)) ≡ take b (valuesOf q seen) =
+        rw more (values-kept b q seen next t) in
+        let d : i + 1 - gone ≡ i - gone + 1 = omega (arith, w .gone-le) in
+        record {
+          within = omega arith;
+          gone-le = omega (arith, w .gone-le);
+          gone-is = rw sent (w .gone-is);
+          kept-is =
+              rw (d, same, more, without-kept b q seen next t, ← (w .kept-is))
+              (bytes-stored (i - gone) after (omega (arith, w .long)) (getD before i 0));
+          rest = λ k g.
+              getD-set-other after (i - gone) k (getD after i 0) 0 (λ u. omega (arith, u, g)) ∙ w .rest k (omega arith);
+          stored-is = rw sent (w .stored-is);
+          long = length-set after (i - gone) (getD after i 0) ∙ w .long;
+          store-long = w .store-long;
+        }
+
+  pub pass-ends : b ≤ countOf q (bytesIn n before) → (after store : List ℕ) (gone i : ℕ)
+      → Passed n q b place before store₀ after store gone i → n ≤ i
+      → WroteOut n q b place before after store₀ store
+  pass-ends enough after store gone i w l =
+      let e : i ≡ n = omega (arith, w .within) in
+      let f : gone ≡ b =
+      rw e at (w .gone-is) ∙ length-take-le b (valuesOf q (bytesIn n before)) enough in
+      record {
+        left = rw (e, f) at (w .kept-is);
+        stored-is = rw e at (w .stored-is);
+        same-length = w .long;
+      }

@@ -1,0 +1,200 @@
+-- One turn of each loop over the lookahead: what the loop has done so far it has done with one cell more. Each loop has
+-- a record of what it has done; its laws are the start, the turns and the end.
+use mathlib.Core.Path.{_≡_, refl, ap, sym, _∙_, fun-ext}
+use mathlib.Core.List.{List, [], _∷_, _++_}
+use mathlib.Core.Option.{some, none}
+use Prim.Native.Nat.{ℕ, zero, suc, _+_, _-_, _≤_, _<_}
+use native.Mathlib.Omega.{arith}
+use lib.Dec.{eqb}
+use lib.ListN.{length, drop, set, getD, replicate, length-set, length-replicate, drop-of-length-le}
+use lib.Seq.{drop-append-le, getD-set-same, getD-set-other}
+use borrow.Author.Tests.{eqb-true, eqb-false}
+use Rattle.model.specs.Words.{update}
+use Rattle.model.specs.State.{Cell, empty, held, owed, owes, owedOf}
+use Rattle.model.specs.Slot.{refillQueue}
+use Rattle.model.proofs.Words.{by-test, at-queue, update-same, update-other}
+use Rattle.model.proofs.Cells.{owed-append}
+use Rattle.model.proofs.Scan.{scan-stops, scan-goes-on}
+use Rattle.caches.specs.Views.{countsIn}
+use Rattle.lookahead.specs.Views.{cellOf, cellsIn}
+use Rattle.lookahead.specs.Says.{Shifted, TallyOwed, Scanned}
+use Rattle.lookahead.proofs.Cells.{queueAt, cell-owed, cell-owes-nothing, cell-skipped, no-cells, cells-length}
+use Rattle.lookahead.proofs.Cells.{cells-more, cells-stored, cells-from}
+
+-- The shift before turn i: i cells have moved down, and those from i on are where they were.
+pub record ShiftedTo (i l : ℕ) (before after : List ℕ) : Type 0 where
+  pub within : i + 1 ≤ l
+  pub same-length : length after ≡ length before
+  pub moved : cellsIn i after ≡ drop 1 (cellsIn (i + 1) before)
+  pub others : (k : ℕ) → i ≤ k → getD after k 0 ≡ getD before k 0
+
+pub shift-starts : {l : ℕ} (xs : List ℕ) → 1 ≤ l → l ≤ length xs → ShiftedTo 0 l xs xs
+shift-starts xs some-cell fits = record {
+  within = some-cell;
+  same-length = refl;
+  moved = rw (cells-more 0 xs (omega arith), no-cells);
+  others = λ k h. refl;
+}
+
+module _ {i l : ℕ} {before after : List ℕ} (fits : l ≤ length before) (w : ShiftedTo i l before after) where
+  pub shift-moves : i + 1 < l → ShiftedTo (i + 1) l before (set after i (getD after (i + 1) 0))
+  shift-moves more =
+      let oldest : 1 ≤ length (cellsIn (i + 1) before) = omega (arith, cells-length (i + 1) before (omega arith)) in
+      record {
+        within = omega arith;
+        same-length = length-set after i (getD after (i + 1) 0) ∙ w .same-length;
+        moved =
+            cells-stored i after (getD after (i + 1) 0) (omega (arith, w .same-length))
+            ∙ rw (
+              w .moved,
+              w .others (i + 1) (omega arith),
+              cells-more (i + 1) before (omega arith),
+              drop-append-le 1 (cellsIn (i + 1) before),
+            );
+        others = λ k h.
+            getD-set-other after i k (getD after (i + 1) 0) 0 (λ e. omega arith) ∙ w .others k (omega arith);
+      }
+
+  pub shift-ends : (cell : ℕ) → i + 1 ≡ l → Shifted l cell before (set after i cell)
+  shift-ends cell last = record {
+    cells-are = rw (← last) (cells-stored i after cell (omega (arith, w .same-length)) ∙ rw (w .moved));
+    same-length = length-set after i cell ∙ w .same-length;
+  }
+
+-- An array with a number stored at one place is the function updated there.
+counts-stored : (xs : List ℕ) (q v : ℕ) → q < length xs → countsIn (set xs q v) ≡ update (countsIn xs) q v
+unfolding countsIn
+counts-stored xs q v h =
+    fun-ext (at-queue (λ (p : ℕ). countsIn (set xs q v) p ≡ update (countsIn xs) q v p) q
+    (getD-set-same xs q v 0 h ∙ sym (update-same (countsIn xs) q v))
+    (λ p t. getD-set-other xs q p v 0 (λ e. eqb-false q p t (sym e)) ∙ sym (update-other (countsIn xs) q v p t)))
+
+-- The scan before cell i: whatever follows, it answers as the scan of the cells from i on with the credits left.
+pub record ScannedTo (i from l : ℕ) (xs credits left : List ℕ) : Type 0 where
+  pub within : i ≤ l
+  pub long : length left ≡ 64
+  pub goes-on : (rest : List Cell)
+      → refillQueue (countsIn credits) (drop from (cellsIn l xs) ++ rest)
+      ≡ refillQueue (countsIn left) (drop i (cellsIn l xs) ++ rest)
+
+module _ {i from l : ℕ} {xs credits left : List ℕ} (fits : l ≤ length xs) (w : ScannedTo i from l xs credits left) where
+  pub scan-ends : i ≡ l → Scanned (countsIn credits) (drop from (cellsIn l xs)) none (countsIn left)
+  scan-ends last =
+      let passed : length (cellsIn l xs) ≤ i = omega (arith, cells-length l xs fits) in
+      record { ends = λ rest. w .goes-on rest ∙ rw (drop-of-length-le (cellsIn l xs) passed) }
+
+  module _ (more : i < l) where
+    pub scan-skips : getD xs i 0 < 131072 → ScannedTo (i + 1) from l xs credits left
+    scan-skips other = record {
+      within = omega arith;
+      long = w .long;
+      goes-on = λ rest.
+          w .goes-on rest
+          ∙ rw (cells-from xs fits more)
+          (cell-skipped (countsIn left) (getD xs i 0) (drop (i + 1) (cellsIn l xs) ++ rest) other);
+    }
+
+    module _ (owing : 131072 ≤ getD xs i 0) where
+      owed-next : drop i (cellsIn l xs) ≡ owed (queueAt xs i) ∷ drop (i + 1) (cellsIn l xs)
+      owed-next = cells-from xs fits more ∙ rw (cell-owed (getD xs i 0) owing)
+
+      pub scan-finds : getD left (queueAt xs i) 0 ≡ 0
+          → Scanned (countsIn credits) (drop from (cellsIn l xs)) (some (queueAt xs i)) (countsIn left)
+      unfolding countsIn
+      scan-finds uncovered = record {
+        ends = λ rest.
+            w .goes-on rest
+            ∙ rw owed-next
+            (scan-stops (countsIn left) (queueAt xs i) (drop (i + 1) (cellsIn l xs) ++ rest) uncovered);
+      }
+
+      pub scan-spends : queueAt xs i < 64 → 1 ≤ getD left (queueAt xs i) 0
+          → ScannedTo (i + 1) from l xs credits (set left (queueAt xs i) (getD left (queueAt xs i) 0 - 1))
+      unfolding countsIn
+      scan-spends below covered = record {
+        within = omega arith;
+        long = length-set left (queueAt xs i) (getD left (queueAt xs i) 0 - 1) ∙ w .long;
+        goes-on = λ rest.
+            w .goes-on rest
+            ∙ rw (
+              owed-next,
+              counts-stored left (queueAt xs i) (getD left (queueAt xs i) 0 - 1) (omega (arith, w .long)),
+            )
+            (scan-goes-on (countsIn left) (queueAt xs i) (drop (i + 1) (cellsIn l xs) ++ rest) covered);
+      }
+
+-- The tally before cell i is that of the first i cells.
+pub record TalliedTo (i n : ℕ) (xs counts : List ℕ) : Type 0 where
+  pub within : i ≤ n
+  pub tally : TallyOwed counts (cellsIn i xs)
+
+no-count : (n q : ℕ) → getD (replicate {A = ℕ} n 0) q 0 ≡ 0
+no-count zero q = refl
+no-count (suc n) zero = refl
+no-count (suc n) (suc q) = no-count n q
+
+pub tally-starts : (n : ℕ) (xs : List ℕ) → TalliedTo 0 n xs (replicate 64 0)
+unfolding countsIn
+tally-starts n xs = record {
+  within = omega arith;
+  tally = record { long = length-replicate {A = ℕ} 64 0; count-is = λ q. rw no-cells (no-count 64 q) };
+}
+
+count-raised : (counts : List ℕ) (q p : ℕ) → q < length counts
+    → countsIn (set counts q (getD counts q 0 + 1)) p ≡ countsIn counts p + owes p (owed q)
+unfolding countsIn
+count-raised counts q p h =
+    ap (λ (f : ℕ → ℕ). f p) (counts-stored counts q (getD counts q 0 + 1) h)
+    ∙ by-test (eqb q p)
+    (λ t. rw t (omega (arith, ap (countsIn counts) (eqb-true q p t))))
+    (λ t. rw t (omega arith))
+
+owed-at-most : (q : ℕ) (cells : List Cell) → owedOf q cells ≤ length cells
+owed-at-most q [] = omega arith
+owed-at-most q (empty ∷ cells) = omega (arith, owed-at-most q cells)
+owed-at-most q (held p v ∷ cells) = omega (arith, owed-at-most q cells)
+owed-at-most q (owed p ∷ cells) =
+    by-test (eqb p q)
+    (λ t. rw t (omega (arith, owed-at-most q cells)))
+    (λ t. rw t (omega (arith, owed-at-most q cells)))
+
+module _ {i n : ℕ} {xs counts : List ℕ} (fits : n ≤ length xs) (w : TalliedTo i n xs counts) where
+  pub tally-ends : n ≤ i → TallyOwed counts (cellsIn n xs)
+  tally-ends last = let e : i ≡ n = omega arith in rw e at (w .tally)
+
+  module _ (more : i < n) where
+    owed-more : (p : ℕ) → owedOf p (cellsIn (i + 1) xs) ≡ owedOf p (cellsIn i xs) + owes p (cellOf (getD xs i 0))
+    owed-more p =
+        rw (cells-more i xs (omega arith)) (omega (arith, owed-append p (cellsIn i xs) (cellOf (getD xs i 0) ∷ [])))
+
+    -- A count is at most the number of cells counted, so that it fits.
+    pub count-at-most : (q : ℕ) → getD counts q 0 ≤ i
+    unfolding countsIn
+    count-at-most q =
+        omega (arith, w .tally .count-is q, owed-at-most q (cellsIn i xs), cells-length i xs (omega arith))
+
+    pub tally-skips : getD xs i 0 < 131072 → TalliedTo (i + 1) n xs counts
+    tally-skips other = record {
+      within = omega arith;
+      tally = record {
+        long = w .tally .long;
+        count-is = λ p.
+            omega (arith, w .tally .count-is p, owed-more p, cell-owes-nothing (getD xs i 0) p other);
+      };
+    }
+
+    pub tally-counts : 131072 ≤ getD xs i 0 → queueAt xs i < 64
+        → TalliedTo (i + 1) n xs (set counts (queueAt xs i) (getD counts (queueAt xs i) 0 + 1))
+    tally-counts owing below = record {
+      within = omega arith;
+      tally = record {
+        long = length-set counts (queueAt xs i) (getD counts (queueAt xs i) 0 + 1) ∙ w .tally .long;
+        count-is = λ p. omega (
+          arith,
+          w .tally .count-is p,
+          count-raised counts (queueAt xs i) p (omega (arith, w .tally .long)),
+          owed-more p,
+          ap (owes p) (cell-owed (getD xs i 0) owing),
+        );
+      };
+    }

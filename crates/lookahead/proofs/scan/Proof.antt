@@ -1,0 +1,110 @@
+-- `scan` meets its contract: before cell i the scan of the cells from `from` on answers as that of the cells from i on
+-- with the credits left, whatever follows; the measure is the number of cells left.
+use Prim.Native.Nat.{_-_, _<_}
+use mathlib.Core.Logic.{⊎-elim}
+use native.Mathlib.Omega.{arith}
+use borrow.Author.Needs.{needs}
+use Rattle.lookahead.proofs.Cells.{queueAt, queue-below}
+use Rattle.lookahead.proofs.Turns.{ScannedTo, scan-ends, scan-skips, scan-finds, scan-spends}
+use Rattle.lookahead.proofs.scan.Statement.{statement}
+use Rattle.lookahead.proofs.scan.Tie as tie
+
+abbrev Inv-loop : tie.InvT-loop
+Inv-loop cells from l left₀ i₀ left i = ScannedTo i from l cells left₀ left
+
+abbrev μ-loop : tie.MeasureT-loop
+μ-loop cells from l left₀ i₀ left i = l - i
+
+-- An Owed cell that the scan comes to is of a queue below 64.
+owed-queue : (c : tie.Then2 Inv-loop μ-loop)
+    → queueAt (c .before .before .before .before .args .cells .now) (c .before .before .before .loop .i) < 64
+owed-queue c =
+    let start = c .before .before .before .before in
+    queue-below (start .args .cells .now) (start .pre .1) (omega arith) 64 (start .pre .2) (omega arith)
+
+loop-holds : tie.Need-loop-holds Inv-loop μ-loop
+loop-holds c = search needs
+
+mul-c : tie.Need-mul-c Inv-loop μ-loop
+mul-c c = search needs
+
+shared-slice-read-c : tie.Need-shared-slice-read-c Inv-loop μ-loop
+shared-slice-read-c c = search needs
+
+cast-q : tie.Need-cast-q Inv-loop μ-loop
+cast-q c = search needs
+
+mul-if3 : tie.Need-mul-if3 Inv-loop μ-loop
+mul-if3 c = search needs
+
+array-read-if3 : tie.Need-array-read-if3 Inv-loop μ-loop
+array-read-if3 c = owed-queue c
+
+cast-t22 : tie.Need-cast-t22 Inv-loop μ-loop
+cast-t22 c = search needs
+
+mul-left : tie.Need-mul-left Inv-loop μ-loop
+mul-left c = search needs
+
+array-read-left : tie.Need-array-read-left Inv-loop μ-loop
+array-read-left c = owed-queue (c .before)
+
+sub-left : tie.Need-sub-left Inv-loop μ-loop
+sub-left c = search needs
+
+mul-left-2 : tie.Need-mul-left-2 Inv-loop μ-loop
+mul-left-2 c = search needs
+
+array-write-left : tie.Need-array-write-left Inv-loop μ-loop
+array-write-left c = owed-queue (c .before)
+
+add-i : tie.Need-add-i Inv-loop μ-loop
+add-i c = search needs
+
+loop-less : tie.Need-loop-less Inv-loop μ-loop
+loop-less c = search needs
+
+-- By the arm that uses a credit, or past a cell that owes nothing.
+loop-again : tie.Need-loop-again Inv-loop μ-loop
+loop-again c =
+    let inv = c .before .before .before .loop .inv in
+    let fits = c .before .before .before .before .pre .1 in
+    ⊎-elim
+    (λ w. rw (w .2) (scan-spends fits inv (omega arith) (w .0 .taken)
+    (owed-queue (record { before = c .before; if2 = w .0 }))
+    (omega (arith, w .1 .left))))
+    (λ w. rw (w .1) (scan-skips fits inv (omega arith) (omega (arith, w .0 .left))))
+    (c .if2 .came)
+
+returns : tie.Need-returns Inv-loop μ-loop
+returns c = scan-ends (c .before .before .pre .1) (c .before .loop .inv) (c .if1 .taken)
+
+returns-2 : tie.Need-returns-2 Inv-loop μ-loop
+returns-2 c =
+    let inv = c .before .before .before .before .loop .inv in
+    let fits = c .before .before .before .before .before .pre .1 in
+    scan-finds fits inv (omega arith) (c .before .if2 .taken) (c .if3 .taken)
+
+pub scan-spec : {M : Type 1} → statement M
+scan-spec =
+    tie.close
+    (tie.spec
+    Inv-loop
+    μ-loop
+    loop-holds
+    mul-c
+    shared-slice-read-c
+    cast-q
+    mul-if3
+    array-read-if3
+    cast-t22
+    mul-left
+    array-read-left
+    sub-left
+    mul-left-2
+    array-write-left
+    add-i
+    loop-less
+    loop-again
+    returns
+    returns-2)

@@ -1,0 +1,94 @@
+// Operations on the lookahead that is lent as an array of cells. Each has one loop at most, and its contract gives what
+// the array then holds by the model's own definition.
+ghost use mathlib.Core.Path.{_≡_};
+ghost use mathlib.Core.Bool.{true};
+ghost use Prim.Native.Nat.{_≤_};
+ghost use lib.ListN.{length, drop};
+ghost use Rattle.model.specs.Words.{allOf};
+ghost use Rattle.model.specs.State.{cellBelow};
+ghost use Rattle.caches.specs.Views.{countsIn};
+ghost use Rattle.caches.specs.Says.{chosenIn};
+ghost use Rattle.lookahead.specs.Views.{cellsIn};
+ghost use Rattle.lookahead.specs.Says.{Shifted, TallyOwed, Scanned};
+use caches::Chosen;
+
+// The oldest of l cells leaves, and `cell` comes in as the youngest.
+pub fn shift(cells: &mut [u32], l: usize, cell: u32)
+    requires { ⌜ (1 ≤ l) × (l ≤ length (now cells)) ⌝ }
+    ensures { λ _. ⌜ Shifted l cell (now (cells .entry)) (now (cells .exit)) ⌝ }
+{
+    let mut i: usize = 0;
+    while i + 1 < l {
+        cells[i] = cells[i + 1];
+        i += 1;
+    }
+    cells[l - 1] = cell;
+}
+
+// Where a scan stopped, and the credits that it left.
+pub struct Stopped {
+    pub found: Chosen,
+    pub left: [u16; 64],
+}
+
+// Scans the cells from `from` to l, and stops at the first Owed cell that its queue's credits do not cover.
+pub fn scan(cells: &[u32], from: usize, l: usize, credits: [u16; 64]) -> Stopped
+    requires { ⌜ (from ≤ l) × (l ≤ length (now cells)) × (allOf (cellBelow 64) (cellsIn l (now cells)) ≡ true) ⌝ }
+    ensures { λ r. ⌜ Scanned (countsIn credits) (drop from (cellsIn l (now (cells .entry))))
+        (chosenIn (r .found)) (countsIn (r .left)) ⌝ }
+{
+    let mut left = credits;
+    let mut i = from;
+    let found = loop {
+        if i == l {
+            break Chosen::Nothing;
+        }
+        let c = cells[i];
+        if 131072 <= c {
+            let q = (c / 256 % 256) as usize;
+            if left[q] == 0 {
+                break Chosen::Queue(q as u8);
+            }
+            left[q] = left[q] - 1;
+        }
+        i += 1;
+    };
+    Stopped {
+        found: found,
+        left: left,
+    }
+}
+
+// Of each queue its Owed cells among the first n.
+pub fn tally_owed(cells: &[u32], n: usize) -> [u16; 64]
+    requires { ⌜ (n ≤ 2017) × (n ≤ length (now cells)) × (allOf (cellBelow 64) (cellsIn n (now cells)) ≡ true) ⌝ }
+    ensures { λ r. ⌜ TallyOwed r (cellsIn n (now (cells .entry))) ⌝ }
+{
+    let mut counts = [0u16; 64];
+    let mut i: usize = 0;
+    while i < n {
+        let cell = cells[i];
+        if 131072 <= cell {
+            let q = (cell / 256 % 256) as usize;
+            counts[q] = counts[q] + 1;
+        }
+        i += 1;
+    }
+    counts
+}
+
+// Whether the first n cells are all empty or of queues below `queues`.
+pub fn all_below(cells: &[u32], n: usize, queues: usize) -> bool
+    requires { ⌜ n ≤ length (now cells) ⌝ }
+    ensures { λ r. ⌜ r ≡ allOf (cellBelow queues) (cellsIn n (now (cells .entry))) ⌝ }
+{
+    let mut i: usize = 0;
+    while i < n {
+        let c = cells[i];
+        if 65536 <= c && queues <= (c / 256 % 256) as usize {
+            return false;
+        }
+        i += 1;
+    }
+    true
+}

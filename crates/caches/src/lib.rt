@@ -17,7 +17,7 @@ pub enum Chosen {
     Nothing,
 }
 
-// Whether one of 64 entries is of queue q: a loop that is compiled to vector instructions.
+// Whether one of 64 entries is of queue q: a loop with no early end, fit for vector instructions.
 fn has_queue(entries: &[u16], at: usize, q: u16) -> bool
     requires { ⌜ at + 64 ≤ length (now entries) ⌝ }
     ensures { λ r. ⌜ (r ≡ false → NoneOf q (now (entries .entry)) at 64) ⌝ }

@@ -2,7 +2,7 @@
 use mathlib.Core.Path.{_≡_, refl}
 use mathlib.Core.Bool.{Bool, true, false, _&&_}
 use mathlib.Core.List.{List, [], _∷_}
-use Prim.Native.Nat.{ℕ, _-_, _*_, _≤_}
+use Prim.Native.Nat.{ℕ, _+_, _-_, _*_, _/_, _≤_}
 use native.Mathlib.Omega.{arith}
 use native.Mathlib.Nat.{mul-le-mul}
 use lib.Dec.{leb}
@@ -82,23 +82,24 @@ no-block rate grade h = record { number-is = rw out; block-is = rw out }
     out : sizable rate grade ≡ false
     out = by-test (sizable rate grade) (λ t. absurd (h (sizable-facts rate grade t))) (λ t. t)
 
-pub a-block : (rate grade b : ℕ) → Sizable rate grade → b ≡ blockFor rate grade → SizingSays rate grade (Block b)
-a-block rate grade b f e = record { number-is = rw yes-is; block-is = rw (yes-is, e) }
+pub a-block : (rate grade b : ℕ) → b ≡ blockFor rate grade → 1 ≤ rate → rate ≤ 100 → grade ≤ 15 → b ≤ 128
+    → SizingSays rate grade (Block b)
+a-block rate grade b e low high last small = record { number-is = rw yes-is; block-is = rw (yes-is, e) }
   where
     yes-is : sizable rate grade ≡ true
     yes-is =
-        and-both _ _ (between-holds 1 rate 100 (f .rate-low) (f .rate-high))
-        (and-both _ _ (le-leb grade 15 (f .grade-high))
-        (and-both _ _ (le-leb (blockFor rate grade) 128 (f .block-high)) refl))
+        and-both _ _ (between-holds 1 rate 100 low high)
+        (and-both _ _ (le-leb grade 15 last)
+        (and-both _ _ (le-leb (blockFor rate grade) 128 (omega (arith, e))) refl))
 
--- A cycle time is at most 80 ns.
-pub cycle-small : (grade : ℕ) → grade ≤ 15 → cycleTime grade ≤ 80
-cycle-small grade l =
-    leb-true (cycleTime grade) 80 (all-below-facts 16 (λ n. leb (cycleTime n) 80) refl grade (omega arith))
+-- A cycle time is at most 80 ns, so the rule's product is small.
+pub product-small : (rate grade time : ℕ) → time ≡ cycleTime grade → rate ≤ 100 → grade ≤ 15 → rate * time ≤ 8000
+product-small rate grade time e l m = rw e (mul-le-mul {n₁ = rate} {m₁ = cycleTime grade} {n₂ = 100} {m₂ = 80} l
+    (leb-true (cycleTime grade) 80 (all-below-facts 16 (λ n. leb (cycleTime n) 80) refl grade (omega arith))))
 
-pub product-small : (rate grade : ℕ) → rate ≤ 100 → grade ≤ 15 → rate * cycleTime grade ≤ 8000
-product-small rate grade l m = mul-le-mul {n₁ = rate} {m₁ = cycleTime grade} {n₂ = 100} {m₂ = 80} l
-    (cycle-small grade m)
+-- The rule's block of a grade's cycle time.
+pub block-of : (rate grade time : ℕ) → time ≡ cycleTime grade → (rate * time + 3) / 4 ≡ blockFor rate grade
+block-of rate grade time e = rw e refl
 
 -- The derived sizes, of accepted sizes and of others.
 pub no-sizes : (q b k : ℕ) → accepts paperLimits (sizes q b k) ≡ false → DerivedSays q b k NoSizes

@@ -1,6 +1,7 @@
 // The sizing rule, and the memories that sizes need: what a line card designer asks first.
 ghost use mathlib.Core.Path.{_≡_};
-ghost use Rattle.model.specs.Sizes.{sizes, paperLimits, accepts};
+ghost use Prim.Native.Nat.{_<_};
+ghost use Rattle.model.specs.Sizes.{sizes, paperLimits, accepts, cycleTime};
 ghost use Rattle.sizing.specs.Says.{SizingSays, DerivedSays};
 
 // A block of so many bytes, or refusal 11.
@@ -29,6 +30,14 @@ const CYCLE_TIMES: [usize; 16] = [
     80,
 ];
 
+// The cycle time of a grade.
+fn cycle_time(grade: usize) -> usize
+    requires { ⌜ grade < 16 ⌝ }
+    ensures { λ r. ⌜ r ≡ cycleTime grade ⌝ }
+{
+    CYCLE_TIMES[grade]
+}
+
 // The bytes of a block at `rate` Gb/s and a memory grade: rate × cycle time / 4, rounded up.
 pub fn block_size(rate: usize, grade: usize) -> Sizing
     ensures { λ r. ⌜ SizingSays rate grade r ⌝ }
@@ -42,7 +51,7 @@ pub fn block_size(rate: usize, grade: usize) -> Sizing
     if 15 < grade {
         return Sizing::NoBlock;
     }
-    let b = (rate * CYCLE_TIMES[grade] + 3) / 4;
+    let b = (rate * cycle_time(grade) + 3) / 4;
     if 128 < b {
         return Sizing::NoBlock;
     }

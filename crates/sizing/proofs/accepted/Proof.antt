@@ -6,49 +6,41 @@ use Rattle.sizing.proofs.accepted.Tie as tie
 use Rattle.sizing.proofs.accepted.Reads as reads
 use Rattle.sizing.proofs.accepted.Lts as lts
 
--- src/lib.rt:57:9
 returns : tie.Need-returns
 returns c =
     let a = c .before .args in
     sym (accepts-not (a .queues) (a .block) (a .blocks) (λ f. omega arith))
 
--- src/lib.rt:60:9
 returns-2 : tie.Need-returns-2
 returns-2 c =
     let a = c .before .before .args in
     sym (accepts-not (a .queues) (a .block) (a .blocks) (λ f. omega arith))
 
--- src/lib.rt:63:9
 returns-3 : tie.Need-returns-3
 returns-3 c =
     let a = c .before .before .before .args in
     sym (accepts-not (a .queues) (a .block) (a .blocks) (λ f. omega arith))
 
--- src/lib.rt:66:9
 returns-4 : tie.Need-returns-4
 returns-4 c =
     let a = c .before .before .before .before .args in
     sym (accepts-not (a .queues) (a .block) (a .blocks) (λ f. omega arith))
 
--- src/lib.rt:69:9
 returns-5 : tie.Need-returns-5
 returns-5 c =
     let a = c .before .before .before .before .before .args in
     sym (accepts-not (a .queues) (a .block) (a .blocks) (λ f. omega arith))
 
--- src/lib.rt:72:9
 returns-6 : tie.Need-returns-6
 returns-6 c =
     let a = c .before .before .before .before .before .before .args in
     sym (accepts-not (a .queues) (a .block) (a .blocks) (λ f. omega arith))
 
--- src/lib.rt:74:5
 mul-result : tie.Need-mul-result
 mul-result c =
     let a = c .before .before .before .before .before .before .args in
     record { fits = omega (arith, small-product (a .queues) (a .block) (omega arith) (omega arith)) }
 
--- src/lib.rt:53:1
 returns-7 : tie.Need-returns-7
 returns-7 c =
     let a = c .before .before .before .before .before .before .args in

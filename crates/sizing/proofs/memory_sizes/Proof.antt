@@ -9,73 +9,62 @@ use Rattle.sizing.proofs.memory_sizes.Reads as reads
 use Rattle.sizing.proofs.memory_sizes.Lts as lts
 use Rattle.sizing.proofs.accepted.Reads as accepted-reads
 
--- src/lib.rt:95:8
 accepted-requires : tie.Need-accepted-requires
 accepted-requires c κs = search needs
 
--- src/lib.rt:96:30
 sub-span : tie.Need-sub-span
 sub-span c =
     let a = c .before .before .args in
     let f = accepts-fits (a .queues) (a .block) (a .blocks) (sym (c .before .accepted .ensures) ∙ c .if1 .taken) in
     omega (arith, f)
 
--- src/lib.rt:96:20
 mul-span : tie.Need-mul-span
 mul-span c =
     let a = c .before .before .args in
     let f = accepts-fits (a .queues) (a .block) (a .blocks) (sym (c .before .accepted .ensures) ∙ c .if1 .taken) in
     record { fits = omega (arith, f) }
 
--- src/lib.rt:98:24
 add-t6 : tie.Need-add-t6
 add-t6 c =
     let a = c .before .before .args in
     let f = accepts-fits (a .queues) (a .block) (a .blocks) (sym (c .before .accepted .ensures) ∙ c .if1 .taken) in
     record { fits = omega (arith, f) }
 
--- src/lib.rt:99:19
 add-t7 : tie.Need-add-t7
 add-t7 c =
     let a = c .before .before .args in
     let f = accepts-fits (a .queues) (a .block) (a .blocks) (sym (c .before .accepted .ensures) ∙ c .if1 .taken) in
     record { fits = omega (arith, f) }
 
--- src/lib.rt:100:19
 mul-t8 : tie.Need-mul-t8
 mul-t8 c =
     let a = c .before .before .args in
     let f = accepts-fits (a .queues) (a .block) (a .blocks) (sym (c .before .accepted .ensures) ∙ c .if1 .taken) in
     record { fits = omega (arith, f) }
 
--- src/lib.rt:100:19
 add-t9 : tie.Need-add-t9
 add-t9 c =
     let a = c .before .before .args in
     let f = accepts-fits (a .queues) (a .block) (a .blocks) (sym (c .before .accepted .ensures) ∙ c .if1 .taken) in
     record { fits = omega (arith, f) }
 
--- src/lib.rt:101:20
 mul-t10 : tie.Need-mul-t10
 mul-t10 c =
     let a = c .before .before .args in
     let f = accepts-fits (a .queues) (a .block) (a .blocks) (sym (c .before .accepted .ensures) ∙ c .if1 .taken) in
     record { fits = omega (arith, f, mul-le-mul (f .q-high) (f .k-high)) }
 
--- src/lib.rt:101:20
 mul-t11 : tie.Need-mul-t11
 mul-t11 c =
     let a = c .before .before .args in
     let f = accepts-fits (a .queues) (a .block) (a .blocks) (sym (c .before .accepted .ensures) ∙ c .if1 .taken) in
     record { fits = omega (arith, f, mul-le-mul (mul-le-mul (f .q-high) (f .k-high)) (f .b-high)) }
 
--- src/lib.rt:97:9
 returns : tie.Need-returns
 returns c =
     let a = c .before .before .args in
     has-sizes (a .queues) (a .block) (a .blocks) (sym (c .before .accepted .ensures) ∙ c .if1 .taken)
 
--- src/lib.rt:92:1
 returns-2 : tie.Need-returns-2
 returns-2 c =
     let a = c .before .before .args in

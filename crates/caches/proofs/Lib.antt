@@ -10,5 +10,6 @@ pub mod Writing
 pub mod Reading
 -- Queues in range, and counts by queue.
 pub mod Below
+pub mod Counts
 pub mod Tallies
 pub mod Fullest

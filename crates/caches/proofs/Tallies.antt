@@ -1,18 +1,17 @@
 -- Counts by queue taken byte by byte: they start at 0, and each byte adds one to the count of its queue.
-use mathlib.Core.Path.{_≡_, refl, sym, _∙_}
+use mathlib.Core.Path.{_≡_, refl, ap, _∙_}
 use mathlib.Core.List.{List, [], _∷_, _++_}
-use Prim.Native.Nat.{ℕ, zero, suc, _+_, _/_, _≤_, _<_}
+use Prim.Native.Nat.{ℕ, _+_, _/_, _≤_, _<_}
 use native.Mathlib.Omega.{arith}
 use lib.Dec.{eqb}
 use lib.ListN.{length, set, getD, replicate, length-set}
-use lib.Seq.{getD-set-same, getD-set-other}
-use borrow.Author.Tests.{eqb-false}
 use Rattle.model.specs.State.{Byte, countOf}
-use Rattle.model.proofs.Words.{by-test, at-queue}
+use Rattle.model.proofs.Words.{by-test, at-queue, update-same, update-other}
 use Rattle.model.proofs.Bytes.{count-append, count-one-same, count-one-other}
 use Rattle.caches.specs.Views.{byteOf, bytesIn, countsIn}
 use Rattle.caches.specs.Says.{Tally}
 use Rattle.caches.proofs.Entries.{bytes-none, bytes-more}
+use Rattle.caches.proofs.Counts.{counts-zero, counts-stored}
 
 -- A count is at most the number of bytes, so it fits its array.
 pub count-le : (q : ℕ) (xs : List Byte) → countOf q xs ≤ length xs
@@ -23,14 +22,8 @@ count-le q (x ∷ xs) =
     (λ t. rw t (omega (arith, count-le q xs)))
 
 -- No byte yet, and one byte more.
-zeros : (n q : ℕ) → countsIn (replicate n 0) q ≡ 0
-unfolding countsIn
-zeros zero q = refl
-zeros (suc n) zero = refl
-zeros (suc n) (suc q) = zeros n q
-
 pub tally-starts : (xs : List ℕ) → Tally (replicate 64 0) (bytesIn 0 xs)
-tally-starts xs = rw (bytes-none xs) (record { long = refl; count-is = zeros 64 })
+tally-starts xs = rw (bytes-none xs) (record { long = refl; count-is = counts-zero 64 })
 
 pub tally-at : (counts : List ℕ) (xs : List Byte) (q : ℕ) → Tally counts xs → getD counts q 0 ≡ countOf q xs
 unfolding countsIn
@@ -42,14 +35,17 @@ unfolding countsIn
 tally-more counts xs y l w =
     let q = y .queue in
     let n = getD counts q 0 + 1 in
+    let stored = counts-stored counts q n (omega (arith, w .long)) in
     record {
       long = length-set counts q n ∙ w .long;
       count-is =
           at-queue (λ p. countsIn (set counts q n) p ≡ countOf p (xs ++ y ∷ [])) q
-          (getD-set-same counts q n 0 (omega (arith, w .long))
+          (ap (λ (f : ℕ → ℕ). f q) stored
+          ∙ update-same (countsIn counts) q n
           ∙ omega (arith, w .count-is q, count-append q xs (y ∷ []), count-one-same y))
           (λ p t.
-          getD-set-other counts q p n 0 (λ e. eqb-false q p t (sym e))
+          ap (λ (f : ℕ → ℕ). f p) stored
+          ∙ update-other (countsIn counts) q n p t
           ∙ omega (arith, w .count-is p, count-append p xs (y ∷ []), count-one-other y p t));
     }
 

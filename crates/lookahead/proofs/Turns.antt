@@ -1,21 +1,21 @@
--- One turn of each loop over the lookahead: what the loop has done so far it has done with one cell more. Each loop has
--- a record of what it has done; its laws are the start, the turns and the end.
-use mathlib.Core.Path.{_≡_, refl, ap, sym, _∙_, fun-ext}
+-- One turn of each loop over the lookahead: what the loop has done so far it has done with one cell more. Each loop
+-- has a record of what it has done; its laws are the start, the turns and the end.
+use mathlib.Core.Path.{_≡_, refl, ap, _∙_}
 use mathlib.Core.List.{List, [], _∷_, _++_}
 use mathlib.Core.Option.{some, none}
-use Prim.Native.Nat.{ℕ, zero, suc, _+_, _-_, _≤_, _<_}
+use Prim.Native.Nat.{ℕ, _+_, _-_, _≤_, _<_}
 use native.Mathlib.Omega.{arith}
 use lib.Dec.{eqb}
 use lib.ListN.{length, drop, set, getD, replicate, length-set, length-replicate, drop-of-length-le}
-use lib.Seq.{drop-append-le, getD-set-same, getD-set-other}
-use borrow.Author.Tests.{eqb-true, eqb-false}
-use Rattle.model.specs.Words.{update}
+use lib.Seq.{drop-append-le, getD-set-other}
+use borrow.Author.Tests.{eqb-true}
 use Rattle.model.specs.State.{Cell, empty, held, owed, owes, owedOf}
 use Rattle.model.specs.Slot.{refillQueue}
-use Rattle.model.proofs.Words.{by-test, at-queue, update-same, update-other}
+use Rattle.model.proofs.Words.{by-test}
 use Rattle.model.proofs.Cells.{owed-append}
 use Rattle.model.proofs.Scan.{scan-stops, scan-goes-on}
 use Rattle.caches.specs.Views.{countsIn}
+use Rattle.caches.proofs.Counts.{counts-zero, counts-stored}
 use Rattle.lookahead.specs.Views.{cellOf, cellsIn}
 use Rattle.lookahead.specs.Says.{Shifted, TallyOwed, Scanned}
 use Rattle.lookahead.proofs.Cells.{queueAt, cell-owed, cell-owes-nothing, cell-skipped, no-cells, cells-length}
@@ -60,14 +60,6 @@ module _ {i l : ℕ} {before after : List ℕ} (fits : l ≤ length before) (w :
     cells-are = rw (← last) (cells-stored i after cell (omega (arith, w .same-length)) ∙ rw (w .moved));
     same-length = length-set after i cell ∙ w .same-length;
   }
-
--- An array with a number stored at one place is the function updated there.
-counts-stored : (xs : List ℕ) (q v : ℕ) → q < length xs → countsIn (set xs q v) ≡ update (countsIn xs) q v
-unfolding countsIn
-counts-stored xs q v h =
-    fun-ext (at-queue (λ (p : ℕ). countsIn (set xs q v) p ≡ update (countsIn xs) q v p) q
-    (getD-set-same xs q v 0 h ∙ sym (update-same (countsIn xs) q v))
-    (λ p t. getD-set-other xs q p v 0 (λ e. eqb-false q p t (sym e)) ∙ sym (update-other (countsIn xs) q v p t)))
 
 -- The scan before cell i: whatever follows, it answers as the scan of the cells from i on with the credits left.
 pub record ScannedTo (i from l : ℕ) (xs credits left : List ℕ) : Type 0 where
@@ -128,16 +120,11 @@ pub record TalliedTo (i n : ℕ) (xs counts : List ℕ) : Type 0 where
   pub within : i ≤ n
   pub tally : TallyOwed counts (cellsIn i xs)
 
-no-count : (n q : ℕ) → getD (replicate {A = ℕ} n 0) q 0 ≡ 0
-no-count zero q = refl
-no-count (suc n) zero = refl
-no-count (suc n) (suc q) = no-count n q
-
 pub tally-starts : (n : ℕ) (xs : List ℕ) → TalliedTo 0 n xs (replicate 64 0)
 unfolding countsIn
 tally-starts n xs = record {
   within = omega arith;
-  tally = record { long = length-replicate {A = ℕ} 64 0; count-is = λ q. rw no-cells (no-count 64 q) };
+  tally = record { long = length-replicate {A = ℕ} 64 0; count-is = λ q. rw no-cells (counts-zero 64 q) };
 }
 
 count-raised : (counts : List ℕ) (q p : ℕ) → q < length counts

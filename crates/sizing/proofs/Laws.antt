@@ -82,9 +82,9 @@ no-block rate grade h = record { number-is = rw out; block-is = rw out }
     out : sizable rate grade ≡ false
     out = by-test (sizable rate grade) (λ t. absurd (h (sizable-facts rate grade t))) (λ t. t)
 
-pub a-block : (rate grade b : ℕ) → b ≡ blockFor rate grade → 1 ≤ rate → rate ≤ 100 → grade ≤ 15 → b ≤ 128
+pub a-block : (rate grade b : ℕ) → 1 ≤ rate → rate ≤ 100 → grade ≤ 15 → b ≤ 128 → b ≡ blockFor rate grade
     → SizingSays rate grade (Block b)
-a-block rate grade b e low high last small = record { number-is = rw yes-is; block-is = rw (yes-is, e) }
+a-block rate grade b low high last small e = record { number-is = rw yes-is; block-is = rw (yes-is, e) }
   where
     yes-is : sizable rate grade ≡ true
     yes-is =

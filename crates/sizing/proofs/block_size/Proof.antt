@@ -50,8 +50,8 @@ cast-t8 c = search needs
 returns-5 : tie.Need-returns-5
 returns-5 c =
     let a = c .before .before .before .before .before .args in
-    a-block (a .rate) (a .grade) _ (block-of (a .rate) (a .grade) _ (c .before .cycle-time .ensures))
-    (omega arith) (omega arith) (omega arith) (omega arith)
+    a-block (a .rate) (a .grade) _ (omega arith) (omega arith) (omega arith) (c .if4 .left)
+    (block-of (a .rate) (a .grade) _ (c .before .cycle-time .ensures))
 
 pub block-size-spec : {M : Type 1} → statement M
 block-size-spec =

@@ -57,3 +57,8 @@ pub record ReadIn (n q b place : ℕ) (before after store : List ℕ) : Type 0 w
 pub record Tally (counts : List ℕ) (xs : List Byte) : Type 0 where
   pub long : length counts ≡ 64
   pub count-is : (q : ℕ) → countsIn counts q ≡ countOf q xs
+
+-- An array of 64 counts holds these.
+pub record CountsAre (counts : List ℕ) (f : ℕ → ℕ) : Type 0 where
+  pub long : length counts ≡ 64
+  pub count-is : (q : ℕ) → countsIn counts q ≡ f q

@@ -136,7 +136,7 @@ count-raised counts q p h =
     (λ t. rw t (omega (arith, ap (countsIn counts) (eqb-true q p t))))
     (λ t. rw t (omega arith))
 
-owed-at-most : (q : ℕ) (cells : List Cell) → owedOf q cells ≤ length cells
+pub owed-at-most : (q : ℕ) (cells : List Cell) → owedOf q cells ≤ length cells
 owed-at-most q [] = omega arith
 owed-at-most q (empty ∷ cells) = omega (arith, owed-at-most q cells)
 owed-at-most q (held p v ∷ cells) = omega (arith, owed-at-most q cells)

@@ -2,9 +2,9 @@
 use mathlib.Core.Path.{_≡_}
 use mathlib.Core.List.{List, [], _∷_, _++_}
 use mathlib.Core.Option.{Option, some, none}
-use Prim.Native.Nat.{ℕ}
+use Prim.Native.Nat.{ℕ, _-_}
 use lib.ListN.{length, drop}
-use Rattle.model.specs.State.{Cell, owedOf}
+use Rattle.model.specs.State.{Cell, owes, owedOf}
 use Rattle.model.specs.Slot.{refillQueue}
 use Rattle.caches.specs.Views.{countsIn}
 use Rattle.lookahead.specs.Views.{cellOf, cellsIn}
@@ -26,3 +26,7 @@ scanEnds none left rest = refillQueue left rest
 
 pub record Scanned (credits : ℕ → ℕ) (cells : List Cell) (found : Option ℕ) (left : ℕ → ℕ) : Type 0 where
   pub ends : (rest : List Cell) → refillQueue credits (cells ++ rest) ≡ scanEnds found left rest
+
+-- Credits less the one that a leaving Owed cell takes.
+abbrev pub spent : (ℕ → ℕ) → Cell → ℕ → ℕ
+spent credits cell q = credits q - owes q cell

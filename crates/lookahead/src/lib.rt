@@ -2,14 +2,14 @@
 // the array then holds by the model's own definition.
 ghost use mathlib.Core.Path.{_≡_};
 ghost use mathlib.Core.Bool.{true};
-ghost use Prim.Native.Nat.{_≤_};
+ghost use Prim.Native.Nat.{ℕ, _≤_, _<_};
 ghost use lib.ListN.{length, drop};
 ghost use Rattle.model.specs.Words.{allOf};
-ghost use Rattle.model.specs.State.{cellBelow};
+ghost use Rattle.model.specs.State.{owed, cellBelow};
 ghost use Rattle.caches.specs.Views.{countsIn};
-ghost use Rattle.caches.specs.Says.{chosenIn};
-ghost use Rattle.lookahead.specs.Views.{cellsIn};
-ghost use Rattle.lookahead.specs.Says.{Shifted, TallyOwed, Scanned};
+ghost use Rattle.caches.specs.Says.{chosenIn, CountsAre};
+ghost use Rattle.lookahead.specs.Views.{cellOf, cellsIn};
+ghost use Rattle.lookahead.specs.Says.{Shifted, TallyOwed, Scanned, spent};
 use caches::Chosen;
 
 // The oldest of l cells leaves, and `cell` comes in as the youngest.
@@ -75,6 +75,18 @@ pub fn tally_owed(cells: &[u32], n: usize) -> [u16; 64]
         i += 1;
     }
     counts
+}
+
+// A leaving Owed cell takes one from its queue's count.
+pub fn spend(counts: &mut [u16; 64], leaving: u32)
+    requires { ⌜ (length (now counts) ≡ 64)
+        × ((q : ℕ) → cellOf leaving ≡ owed q → (q < 64) × (1 ≤ countsIn (now counts) q)) ⌝ }
+    ensures { λ _. ⌜ CountsAre (now (counts .exit)) (spent (countsIn (now (counts .entry))) (cellOf leaving)) ⌝ }
+{
+    if 131072 <= leaving {
+        let q = (leaving / 256 % 256) as usize;
+        counts[q] = counts[q] - 1;
+    }
 }
 
 // Whether the first n cells are all empty or of queues below `queues`.

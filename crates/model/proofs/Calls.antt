@@ -31,7 +31,7 @@ pub data Told (design : Design) (x : State) (store : List ℕ) (call : Call) : A
       → Told design x store call (remark m n (accept x store call))
 
 -- An answer, from its parts.
-answer-is : (a c : Answer) → c .number ≡ a .number → c .delivered ≡ a .delivered → c .written ≡ a .written
+pub answer-is : (a c : Answer) → c .number ≡ a .number → c .delivered ≡ a .delivered → c .written ≡ a .written
     → c .read ≡ a .read → c .state ≡ a .state → c .store ≡ a .store → c ≡ a
 answer-is a c e₁ e₂ e₃ e₄ e₅ e₆ =
     ap (λ (z : ℕ). made z (c .delivered) (c .written) (c .read) (c .state) (c .store)) e₁

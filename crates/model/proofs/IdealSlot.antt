@@ -70,7 +70,7 @@ module _ (design : Design) (x : State) (store : List ℕ) (call : Call)
   store′ = wroteStore x store call
 
   -- A request that is Held after the delivery would be Held before it, and so finds its byte in the tail.
-  held-before : (q : ℕ) → isOwed y₂ q ≡ false → isOwed x q ≡ false
+  pub held-before : (q : ℕ) → isOwed y₂ q ≡ false → isOwed x q ≡ false
   held-before q f =
       le-ltb (owedCells x q) (headBytes x q + x .sizes .b * blocks x q)
       (omega (

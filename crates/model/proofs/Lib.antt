@@ -17,6 +17,9 @@ pub mod Rules
 pub mod Accepted
 pub mod Kept
 pub mod Calls
+-- Many idle slots as one shift of the cells and one turn of the phase.
+pub mod Idle
+pub mod QuietCount
 -- Why 8, 9 and 10 never come: the walk of orders and the invariant of a list.
 pub mod Walk
 pub mod Invariant

@@ -1,5 +1,6 @@
 -- The slot buffer of document 01, as definitions. Sizes, State, Slot and Lists render its sections in its order; Words
--- has what they share, Ideal the buffer as a user thinks of it, Demand the statements of demand 3.
+-- has what they share, Ideal the buffer as a user thinks of it, Demand the statements of demand 3, Idle what idle slots
+-- come to.
 pub mod Words
 pub mod Sizes
 pub mod State
@@ -7,3 +8,4 @@ pub mod Slot
 pub mod Lists
 pub mod Ideal
 pub mod Demand
+pub mod Idle

@@ -60,6 +60,17 @@ run design x store (call ∷ calls) =
     stepOf x store call (slot design x store call)
     ∷ run design (slot design x store call .state) (slot design x store call .store) calls
 
+-- The state and the store that a list of slots leaves.
+abbrev pub lastState : Design → State → List ℕ → List Call → State
+lastState design x store [] = x
+lastState design x store (call ∷ calls) =
+    lastState design (slot design x store call .state) (slot design x store call .store) calls
+
+abbrev pub lastStore : Design → State → List ℕ → List Call → List ℕ
+lastStore design x store [] = store
+lastStore design x store (call ∷ calls) =
+    lastStore design (slot design x store call .state) (slot design x store call .store) calls
+
 -- What a call of a slot promises: "its answer, the whole state and the whole store. Only the two high marks after an
 -- accepted slot are left free, and the contract says of each that it is at least the present fill and at most the
 -- cache size." On a refusal the state is the very one that was given.

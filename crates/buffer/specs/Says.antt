@@ -1,0 +1,85 @@
+-- What the buffer promises, by the model's own definitions: the making of a state, and one slot.
+use mathlib.Core.Path.{_≡_}
+use mathlib.Core.Bool.{true}
+use mathlib.Core.List.{List}
+use Prim.Native.Nat.{ℕ, _<_}
+use lib.ListN.{length, getD, replicate}
+use Rattle.model.specs.Words.{choose}
+use Rattle.model.specs.Sizes.{sizes, paperLimits, accepts, paper}
+use Rattle.model.specs.State.{State, empty, fresh, makingNumber, keeps}
+use Rattle.model.specs.Slot.{Call, Answer}
+use Rattle.model.specs.Lists.{Promised}
+use Rattle.caches.specs.declared.Chosen.the-variants.{Nothing}
+use Rattle.caches.specs.Says.{chosenIn}
+use Rattle.lookahead.specs.Views.{cellOf}
+use Rattle.parts.specs.declared.Small.{Small}
+use Rattle.parts.specs.declared.Delivery.the-variants.{NoDelivery}
+use Rattle.parts.specs.Calls.{deliveryIn}
+use Rattle.parts.specs.Views.{Arrays, arrays, stateIn}
+use Rattle.slots.specs.declared.Advanced.{Advanced}
+use Rattle.buffer.specs.declared.State as code
+use Rattle.buffer.specs.declared.Made.{Made}
+use Rattle.buffer.specs.declared.Slotted.{Slotted}
+
+-- The state of the paper that a record holds. "Places past a fill or past cell L are no part of the state."
+abbrev pub arraysOf : code.State → Arrays
+arraysOf s = arrays (s .tail) (s .head) (s .cells) (s .firsts) (s .counts)
+
+abbrev pub stateOf : code.State → State
+stateOf s = stateIn (s .small) (arraysOf s)
+
+-- A fresh record, every field of it.
+abbrev pub freshState : ℕ → ℕ → ℕ → code.State
+freshState q b k = record {
+  small = record {
+    queues = q;
+    block = b;
+    blocks = k;
+    phase = 0;
+    «tail_fill» = 0;
+    «head_fill» = 0;
+    «tail_mark» = 0;
+    «head_mark» = 0;
+  };
+  tail = replicate 2144 0;
+  head = replicate 4034 0;
+  cells = replicate 2017 0;
+  firsts = replicate 64 0;
+  counts = replicate 64 0;
+}
+
+-- "Accepted sizes give the fresh state": the paper's state and the record itself, every field; sizes outside the limits
+-- give 1 and one fixed record. "A fresh state has all L cells empty from the start": each place of the array is.
+pub record MakeSays (q b k : ℕ) (r : Made) : Type 0 where
+  pub number-is : r .number ≡ makingNumber paper (sizes q b k)
+  pub record-is : r .state ≡ choose (accepts paperLimits (sizes q b k)) (freshState q b k) (freshState 0 0 0)
+  pub fresh-is : accepts paperLimits (sizes q b k) ≡ true → stateOf (r .state) ≡ fresh paper (sizes q b k)
+  pub cells-empty : (i : ℕ) → i < 2017 → cellOf (getD (r .state .cells) i 0) ≡ empty
+
+-- A slot's answer in the model's terms.
+abbrev pub answerOf : Slotted → List ℕ → Answer
+answerOf r store = record {
+  number = r .number;
+  delivered = deliveryIn (r .delivery);
+  written = chosenIn (r .written);
+  read = chosenIn (r .read);
+  state = stateOf (r .state);
+  store = store;
+}
+
+-- A slot in arrays that answers a refusal.
+abbrev pub refusedAt : Small → ℕ → Advanced
+refusedAt small n = record { small = small; number = n; delivery = NoDelivery; written = Nothing; read = Nothing }
+
+-- One slot: the answer, the whole state and the whole store by the paper's slot; only the two high marks are free
+-- between fill and cache size. On a refusal the very record comes back, places past a fill included.
+pub record SlotSays (s : code.State) (store : List ℕ) (call : Call) (r : Slotted) (store′ : List ℕ) : Type 0 where
+  pub promised : Promised paper (stateOf s) store call (answerOf r store′)
+  pub as-given : (r .number ≡ 0 → ⊥) → r .state ≡ s
+
+-- The same of a step, and that what it leaves can be stepped again.
+pub record StepSays (s : code.State) (store : List ℕ) (call : Call) (r : Slotted) (store′ : List ℕ) : Type 0 where
+  pub says : SlotSays s store call r store′
+  pub kept : keeps paper (stateOf (r .state)) ≡ true
+  pub same-sizes : stateOf (r .state) .sizes ≡ stateOf s .sizes
+  pub same-length : length store′ ≡ length store

@@ -1,0 +1,149 @@
+// "The state goes into a slot and is handed back by it": the steps of a slot as methods on the state, each by value and
+// each of the whole state.
+ghost use mathlib.Core.Path.{_≡_};
+ghost use Prim.Native.Nat.{_+_, _-_, _*_, _<_, _≤_, max};
+ghost use lib.ListN.{length};
+ghost use Rattle.model.specs.Slot.{delivery, afterArrival, afterRequest, afterWrite, storeWritten, afterRead};
+ghost use Rattle.model.specs.Slot.{afterPhase};
+ghost use Rattle.caches.specs.Says.{chosenIn};
+ghost use Rattle.lookahead.specs.Says.{Shifted};
+ghost use Rattle.parts.specs.Calls.{arrivalIn, requestIn, deliveryIn};
+ghost use Rattle.buffer.specs.Says.{stateOf};
+ghost use Rattle.buffer.specs.Moves.{opened, closed, Fits, DeliverAsks, AskAsks, WriteAsks, ReadAsks};
+use crate::EMPTY;
+use crate::State;
+use caches::Chosen;
+use parts::Arrival;
+use parts::Delivery;
+use parts::Request;
+
+// What the first step gives: the state, and the byte that its oldest cell delivered.
+pub struct Delivered {
+    pub state: State,
+    pub delivery: Delivery,
+}
+
+// The larger of two numbers.
+fn larger(a: usize, b: usize) -> usize
+    ensures { λ r. ⌜ r ≡ max a b ⌝ }
+{
+    if a < b {
+        return b;
+    }
+    a
+}
+
+// The oldest of l cells leaves, and an empty one comes in as the youngest.
+fn shift_in_empty(cells: &mut [u32; 2017], l: usize)
+    requires { ⌜ (1 ≤ l) × (l ≤ length (now cells)) ⌝ }
+    ensures { λ _. ⌜ Shifted l 0 (now (cells .entry)) (now (cells .exit)) ⌝ }
+{
+    lookahead::shift(cells, l, EMPTY);
+}
+
+impl State {
+    // 1. "The oldest cell leaves": what it delivers, and the state with an empty youngest cell.
+    pub fn deliver(mut self) -> Delivered
+        requires { ⌜ DeliverAsks (stateOf self) ⌝ }
+        ensures { λ r. ⌜ (stateOf (r .state) ≡ opened (stateOf self))
+            × (deliveryIn (r .delivery) ≡ delivery (stateOf self)) ⌝ }
+    {
+        let cell = self.cells[0];
+        let fill = self.small.head_fill;
+        let gave = steps::deliver(&mut self.head, fill, cell);
+        let l = self.small.queues * (self.small.block - 1) + 1;
+        shift_in_empty(&mut self.cells, l);
+        self.small.head_fill = gave.fill;
+        let delivery = gave.delivery;
+        Delivered {
+            state: self,
+            delivery: delivery,
+        }
+    }
+
+    // 2. "The arriving byte joins the tail." The mark rises with the fill.
+    pub fn arrive(mut self, arrival: Arrival) -> State
+        requires { ⌜ Fits (stateOf self) ⌝ }
+        ensures { λ r. ⌜ stateOf r ≡ afterArrival (arrivalIn arrival) (stateOf self) ⌝ }
+    {
+        let fill = self.small.tail_fill;
+        let joined = steps::arrive(&mut self.tail, fill, arrival);
+        self.small.tail_fill = joined;
+        self.small.tail_mark = larger(self.small.tail_mark, joined);
+        self
+    }
+
+    // 3. "The request takes the youngest cell": Owed where `owes` says so, else Held.
+    pub fn ask(mut self, owes: bool, request: Request) -> State
+        requires { ⌜ AskAsks (stateOf self) owes (requestIn request) ⌝ }
+        ensures { λ r. ⌜ stateOf r ≡ afterRequest (requestIn request) (closed (stateOf self)) ⌝ }
+    {
+        let fill = self.small.tail_fill;
+        let asked = steps::ask(&mut self.tail, fill, owes, request);
+        let youngest = self.small.queues * (self.small.block - 1);
+        self.cells[youngest] = asked.cell;
+        self.small.tail_fill = asked.fill;
+        self
+    }
+
+    // 4. "First a write": the chosen queue's b oldest tail bytes go to the next block of its ring.
+    pub fn write(mut self, written: Chosen, store: &mut [u8]) -> State
+        requires { ⌜ WriteAsks (stateOf self) (chosenIn written) (now store) ⌝ }
+        ensures { λ r. ⌜ (stateOf r ≡ afterWrite (chosenIn written) (stateOf self))
+            × (now (store .exit) ≡ storeWritten (chosenIn written) (stateOf self) (now (store .entry))) ⌝ }
+    {
+        let small = self.small;
+        let firsts = self.firsts;
+        let mut counts = self.counts;
+        let fill = steps::write(
+            &mut self.tail,
+            &firsts,
+            &mut counts,
+            small,
+            small.tail_fill,
+            written,
+            store,
+        );
+        self.counts = counts;
+        self.small.tail_fill = fill;
+        self
+    }
+
+    // 4. "Then a read": the chosen queue's first block goes to the head. The mark rises with the fill.
+    pub fn read(mut self, chosen: Chosen, store: &[u8]) -> State
+        requires { ⌜ ReadAsks (stateOf self) (chosenIn chosen) (now store) ⌝ }
+        ensures { λ r. ⌜ stateOf r ≡ afterRead (chosenIn chosen) (stateOf self) (now (store .entry)) ⌝ }
+    {
+        let small = self.small;
+        let mut firsts = self.firsts;
+        let mut counts = self.counts;
+        let fill = steps::read(
+            &mut self.head,
+            &mut firsts,
+            &mut counts,
+            small,
+            small.head_fill,
+            chosen,
+            store,
+        );
+        self.firsts = firsts;
+        self.counts = counts;
+        self.small.head_fill = fill;
+        self.small.head_mark = larger(self.small.head_mark, fill);
+        self
+    }
+
+    // 5. "The phase rises by one, and after b - 1 comes 0."
+    pub fn turn(mut self) -> State
+        requires { ⌜ stateOf self .phase < stateOf self .sizes .b ⌝ }
+        ensures { λ r. ⌜ stateOf r ≡ afterPhase (stateOf self) ⌝ }
+    {
+        if self.small.phase + 1 == self.small.block {
+            self.small.phase = 0;
+            return self;
+        }
+        let next = self.small.phase + 1;
+        self.small.phase = next;
+        self
+    }
+}

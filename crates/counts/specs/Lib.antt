@@ -1,0 +1,2 @@
+-- Counts by queue along a slot.
+pub mod Says

@@ -1,0 +1,2 @@
+-- What a made state is for the calls that follow.
+pub mod Making

@@ -1,0 +1,84 @@
+// The buffer for C and Rust callers, a whole list of slots from a fresh state in each call: for tests and benchmarks from
+// outside. Each answers 0, or 1 where the sizes are refused.
+ghost use mathlib.Core.Path.{_≡_};
+ghost use Prim.Native.Nat.{_≤_};
+use buffer::Slotted;
+use buffer::State;
+use caches::Chosen;
+use parts::Delivery;
+
+// The smaller of two lengths.
+fn smaller(a: usize, b: usize) -> usize
+    ensures { λ r. ⌜ (r ≤ a) × (r ≤ b) ⌝ }
+{
+    if a < b {
+        return a;
+    }
+    b
+}
+
+// A state as the answer of no slot.
+fn at_rest(state: State) -> Slotted
+    ensures { λ r. ⌜ r .state ≡ state ⌝ }
+{
+    Slotted {
+        state: state,
+        number: 0,
+        delivery: Delivery::NoDelivery,
+        written: Chosen::Nothing,
+        read: Chosen::Nothing,
+    }
+}
+
+// One checked slot by value for each call.
+#[no_mangle]
+pub extern "C" fn drive_slots(queues: usize, block: usize, blocks: usize, calls: &[u32], answers: &mut [u64], store: &mut [u8]) -> u8 {
+    let made = State::make(queues, block, blocks);
+    if made.number != 0 {
+        return 1;
+    }
+    let n = smaller(calls.len(), answers.len());
+    let mut r = at_rest(made.state);
+    let mut i: usize = 0;
+    while i < n {
+        let state = r.state;
+        let call = calls[i];
+        let arrival = words::arrival_in(call);
+        let request = words::request_in(call);
+        r = state.slot(arrival, request, store);
+        let delivery = r.delivery;
+        let written = r.written;
+        let read = r.read;
+        answers[i] = words::answer_word(r.number, delivery, written, read);
+        i += 1;
+    }
+    0
+}
+
+// One unchecked step by value for each call; 2 where the store is too short.
+#[no_mangle]
+pub extern "C" fn drive_steps(queues: usize, block: usize, blocks: usize, calls: &[u32], answers: &mut [u64], store: &mut [u8]) -> u8 {
+    let made = State::make(queues, block, blocks);
+    if made.number != 0 {
+        return 1;
+    }
+    if store.len() < queues * blocks * block {
+        return 2;
+    }
+    let n = smaller(calls.len(), answers.len());
+    let mut r = at_rest(made.state);
+    let mut i: usize = 0;
+    while i < n {
+        let state = r.state;
+        let call = calls[i];
+        let arrival = words::arrival_in(call);
+        let request = words::request_in(call);
+        r = state.step(arrival, request, store);
+        let delivery = r.delivery;
+        let written = r.written;
+        let read = r.read;
+        answers[i] = words::answer_word(r.number, delivery, written, read);
+        i += 1;
+    }
+    0
+}

@@ -1,0 +1,2 @@
+-- What the operations of idle slots promise.
+pub mod Says

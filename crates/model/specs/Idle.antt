@@ -1,0 +1,93 @@
+-- Idle slots, which have no arrival and no request. A quiet one delivers nothing and moves no block: its cells shift by
+-- one, its phase turns, and all else stays. So many quiet slots are one shift and one turn, whatever their number.
+use mathlib.Core.Path.{_≡_}
+use mathlib.Core.Bool.{Bool, true, false}
+use mathlib.Core.List.{List, [], _∷_, _++_}
+use mathlib.Core.Option.{Option, some, none}
+use Prim.Native.Nat.{ℕ, suc, _+_, _-_, _%_, _≤_, _<_, min}
+use lib.Dec.{eqb}
+use lib.ListN.{length, drop, replicate, getD}
+use Rattle.model.specs.Words.{choose}
+use Rattle.model.specs.Sizes.{Sizes, lookahead}
+use Rattle.model.specs.State.{Cell, empty, held, owed, State, tailBytes, headBytes}
+use Rattle.model.specs.Slot.{Call, fullest, refillQueue}
+use Rattle.model.specs.Lists.{Step}
+
+-- One idle slot; `idles n` of Demand.antt is n of them.
+abbrev pub idle : Call
+idle = record { arrival = none; request = none }
+
+-- The state after m slots that only turn the phase.
+abbrev pub turned : ℕ → State → State
+turned m x = record {
+  sizes = x .sizes;
+  phase = (x .phase + m) % x .sizes .b;
+  tail = x .tail;
+  head = x .head;
+  cells = x .cells;
+  rings = x .rings;
+  tailMark = x .tailMark;
+  headMark = x .headMark;
+}
+
+-- The state after m quiet slots, m being at most the number of cells: m cells have left, and as many empty ones have
+-- come.
+abbrev pub quietly : ℕ → State → State
+quietly m x = record {
+  sizes = x .sizes;
+  phase = (x .phase + m) % x .sizes .b;
+  tail = x .tail;
+  head = x .head;
+  cells = drop m (x .cells) ++ replicate m empty;
+  rings = x .rings;
+  tailMark = x .tailMark;
+  headMark = x .headMark;
+}
+
+-- A move would find nothing: no queue has a block of tail bytes, and the head bytes cover every Owed cell.
+pub record NothingToMove (x : State) : Type 0 where
+  pub none-to-write : fullest (x .sizes .b) (tailBytes x) (x .sizes .Q) ≡ none
+  pub none-to-read : refillQueue (headBytes x) (x .cells) ≡ none
+
+-- The next m slots are quiet if they are idle. `within` and `empties`: m cells are there, and they are empty. `still`:
+-- no block moves, since the m slots end before the phase b - 1 has passed or since a move would find nothing.
+pub record Quiet (m : ℕ) (x : State) : Type 0 where
+  pub within : m ≤ length (x .cells)
+  pub empties : (i : ℕ) → i < m → getD (x .cells) i empty ≡ empty
+  pub still : x .sizes .b ≤ x .phase + m → NothingToMove x
+
+-- Every idle slot from here on is quiet: all cells are empty, and no queue has a block of tail bytes.
+pub record AllQuiet (x : State) : Type 0 where
+  pub all-empty : (i : ℕ) → i < length (x .cells) → getD (x .cells) i empty ≡ empty
+  pub none-to-write : fullest (x .sizes .b) (tailBytes x) (x .sizes .Q) ≡ none
+
+-- A slot of a list that was accepted, delivered nothing and moved nothing.
+pub record QuietStep (step : Step) : Type 0 where
+  pub accepted : step .number ≡ 0
+  pub no-delivery : step .delivered ≡ none
+  pub no-write : step .written ≡ none
+  pub no-read : step .read ≡ none
+
+-- How many cells are empty before the first that is not.
+abbrev pub leadingEmpties : List Cell → ℕ
+leadingEmpties [] = 0
+leadingEmpties (empty ∷ cells) = suc (leadingEmpties cells)
+leadingEmpties (held q v ∷ cells) = 0
+leadingEmpties (owed q ∷ cells) = 0
+
+-- Whether a move would find something: a queue to write or a queue to read, by the sizes, each queue's tail bytes and
+-- head bytes, and the cells.
+abbrev pub someQueue : Option ℕ → Bool
+someQueue none = false
+someQueue (some q) = true
+
+abbrev pub moveDue : Sizes → (ℕ → ℕ) → (ℕ → ℕ) → List Cell → Bool
+moveDue s tails heads cells =
+    choose (someQueue (fullest (s .b) tails (s .Q))) true (someQueue (refillQueue heads cells))
+
+-- Of n idle slots, how many first ones are surely quiet: `empties` cells lead, and `due` says whether a move may find
+-- something. Where it may, those that end before the next phase b - 1 has passed. No more than lead, unless all cells
+-- are empty. (Where a move is due, b - 1 is less than the number of cells.)
+abbrev pub quietOf : Sizes → ℕ → ℕ → Bool → ℕ → ℕ
+quietOf s phase empties true n = min n (min empties (s .b - 1 - phase))
+quietOf s phase empties false n = choose (eqb empties (lookahead s)) n (min n empties)

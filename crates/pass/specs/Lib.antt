@@ -1,0 +1,2 @@
+-- Idle slots on lent arrays.
+pub mod Says

@@ -1,0 +1,2 @@
+-- What a run of many slots promises.
+pub mod Says

@@ -1,0 +1,28 @@
+-- `next_phase` meets its contract: the phase is b - 1 exactly where it and 1 are b.
+use Prim.Native.Nat.{_-_}
+use native.Mathlib.Omega.{arith}
+use borrow.Author.Needs.{needs}
+use borrow.Author.Tests.{eq-eqb, ne-eqb}
+use Rattle.slots.proofs.next_phase.Statement.{statement}
+use Rattle.slots.proofs.next_phase.Tie as tie
+
+add-if1 : tie.Need-add-if1
+add-if1 c = search needs
+
+returns : tie.Need-returns
+returns c =
+    let start = c .before .before .before in
+    let s = start .args .small in
+    rw (eq-eqb (s .phase) (s .block - 1) (omega (arith, c .if1 .taken)))
+
+add-result : tie.Need-add-result
+add-result c = search needs
+
+returns-2 : tie.Need-returns-2
+returns-2 c =
+    let start = c .before .before .before .before in
+    let s = start .args .small in
+    rw (ne-eqb (s .phase) (s .block - 1) (λ e. c .before .if1 .left (omega (arith, e, start .pre .0))))
+
+pub next-phase-spec : {M : Type 1} → statement M
+next-phase-spec = tie.close (tie.spec add-if1 returns add-result returns-2)

@@ -1,0 +1,2 @@
+-- One slot on lent arrays.
+pub mod Says

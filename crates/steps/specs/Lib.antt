@@ -1,0 +1,2 @@
+-- The steps of a slot on lent arrays.
+pub mod Says

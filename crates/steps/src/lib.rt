@@ -1,0 +1,170 @@
+// The steps of a slot, each on the one large array that it changes, which is lent to it.
+ghost use mathlib.Core.Path.{_≡_};
+ghost use mathlib.Core.Bool.{true, false};
+ghost use mathlib.Core.Option.{some};
+ghost use Prim.Native.Nat.{ℕ, _+_, _≤_, _<_};
+ghost use lib.ListN.{length};
+ghost use Rattle.model.specs.Sizes.{paperLimits, accepts, storeBytes};
+ghost use Rattle.model.specs.State.{Byte, owed, countOf};
+ghost use Rattle.caches.specs.Views.{bytesIn, countsIn};
+ghost use Rattle.caches.specs.Says.{chosenIn};
+ghost use Rattle.lookahead.specs.Views.{cellOf};
+ghost use Rattle.parts.specs.Calls.{arrivalIn, requestIn};
+ghost use Rattle.parts.specs.Views.{sizesIn};
+ghost use Rattle.steps.specs.Says.{DeliverSays, ArriveSays, AskSays, WriteSays, ReadSays};
+use caches::Chosen;
+use parts::Arrival;
+use parts::Delivery;
+use parts::Request;
+use parts::Small;
+
+// What the leaving cell delivers, and the head's fill then.
+pub struct Gave {
+    pub fill: usize,
+    pub delivery: Delivery,
+}
+
+// 1. "Held delivers its own byte. Owed delivers the oldest head byte of its queue. Empty delivers nothing."
+pub fn deliver(head: &mut [u16; 4034], fill: usize, cell: u32) -> Gave
+    requires { ⌜ (fill ≤ length (now head))
+        × ((q : ℕ) → cellOf cell ≡ owed q → 1 ≤ countOf q (bytesIn fill (now head))) ⌝ }
+    ensures { λ r. ⌜ DeliverSays fill cell (now (head .entry)) (now (head .exit)) r ⌝ }
+{
+    let queue = (cell / 256 % 256) as u8;
+    if 131072 <= cell {
+        let v = caches::take_oldest(head, fill, queue as u16);
+        return Gave {
+            fill: fill - 1,
+            delivery: Delivery::Gives(queue, v),
+        };
+    }
+    if 65536 <= cell {
+        return Gave {
+            fill: fill,
+            delivery: Delivery::Gives(queue, (cell % 256) as u8),
+        };
+    }
+    Gave {
+        fill: fill,
+        delivery: Delivery::NoDelivery,
+    }
+}
+
+// 2. "The arriving byte joins the tail."
+pub fn arrive(tail: &mut [u16; 2144], fill: usize, arrival: Arrival) -> usize
+    requires { ⌜ (fill ≤ length (now tail)) × ((y : Byte) → arrivalIn arrival ≡ some y → fill < length (now tail)) ⌝ }
+    ensures { λ r. ⌜ ArriveSays fill (arrivalIn arrival) (now (tail .entry)) (now (tail .exit)) r ⌝ }
+{
+    match arrival {
+        Arrival::NoArrival => fill,
+        Arrival::Comes(queue, value) => {
+            caches::join(tail, fill, queue, value);
+            fill + 1
+        }
+    }
+}
+
+// The cell that a request takes, and the tail's fill then.
+pub struct Asked {
+    pub fill: usize,
+    pub cell: u32,
+}
+
+// 3. The request's cell: Owed, or Held with the oldest tail byte of its queue.
+pub fn ask(tail: &mut [u16; 2144], fill: usize, owes: bool, request: Request) -> Asked
+    requires { ⌜ (fill ≤ length (now tail))
+        × ((q : ℕ) → requestIn request ≡ some q → owes ≡ false → 1 ≤ countOf q (bytesIn fill (now tail))) ⌝ }
+    ensures { λ r. ⌜ AskSays fill owes (requestIn request) (now (tail .entry)) (now (tail .exit)) r ⌝ }
+{
+    match request {
+        Request::NoRequest => Asked {
+            fill: fill,
+            cell: 0,
+        },
+        Request::Asks(queue) => {
+            if owes {
+                return Asked {
+                    fill: fill,
+                    cell: 131072 + (queue as u32) * 256,
+                };
+            }
+            let v = caches::take_oldest(tail, fill, queue as u16);
+            Asked {
+                fill: fill - 1,
+                cell: 65536 + (queue as u32) * 256 + (v as u32),
+            }
+        }
+    }
+}
+
+// 4. The write.
+pub fn write(
+    tail: &mut [u16; 2144],
+    firsts: &[u8; 64],
+    counts: &mut [u8; 64],
+    small: Small,
+    fill: usize,
+    written: Chosen,
+    store: &mut [u8],
+) -> usize
+    requires { ⌜ (fill ≤ length (now tail)) × (accepts paperLimits (sizesIn small) ≡ true) × (storeBytes (sizesIn small) ≤ length (now store))
+        × (length (now firsts) ≡ 64) × (length (now counts) ≡ 64)
+        × ((q : ℕ) → chosenIn written ≡ some q → (q < small .queues)
+        × (small .block ≤ countOf q (bytesIn fill (now tail)))
+        × (countsIn (now firsts) q < small .blocks) × (countsIn (now counts) q < small .blocks)) ⌝ }
+    ensures { λ r. ⌜ WriteSays (sizesIn small) fill (chosenIn written) (now (firsts .entry)) (now (counts .entry))
+        (now (counts .exit)) (now (tail .entry)) (now (tail .exit)) (now (store .entry)) (now (store .exit)) r ⌝ }
+{
+    match written {
+        Chosen::Nothing => fill,
+        Chosen::Queue(queue) => {
+            let q = queue as usize;
+            let b = small.block;
+            let k = small.blocks;
+            let first = firsts[q] as usize;
+            let count = counts[q] as usize;
+            caches::write_out(
+                tail,
+                fill,
+                queue as u16,
+                b,
+                store,
+                (q * k + (first + count) % k) * b,
+            );
+            counts[q] = counts[q] + 1;
+            fill - b
+        }
+    }
+}
+
+// 4. The read.
+pub fn read(
+    head: &mut [u16; 4034],
+    firsts: &mut [u8; 64],
+    counts: &mut [u8; 64],
+    small: Small,
+    fill: usize,
+    chosen: Chosen,
+    store: &[u8],
+) -> usize
+    requires { ⌜ (fill ≤ length (now head)) × (accepts paperLimits (sizesIn small) ≡ true) × (storeBytes (sizesIn small) ≤ length (now store))
+        × (length (now firsts) ≡ 64) × (length (now counts) ≡ 64)
+        × ((q : ℕ) → chosenIn chosen ≡ some q → (q < small .queues) × (fill + small .block ≤ length (now head))
+        × (countsIn (now firsts) q < small .blocks) × (1 ≤ countsIn (now counts) q)) ⌝ }
+    ensures { λ r. ⌜ ReadSays (sizesIn small) fill (chosenIn chosen) (now (firsts .entry)) (now (counts .entry))
+        (now (firsts .exit)) (now (counts .exit)) (now (head .entry)) (now (head .exit)) (now (store .entry)) r ⌝ }
+{
+    match chosen {
+        Chosen::Nothing => fill,
+        Chosen::Queue(queue) => {
+            let q = queue as usize;
+            let b = small.block;
+            let k = small.blocks;
+            let first = firsts[q] as usize;
+            caches::read_in(head, fill, queue, b, store, (q * k + first) * b);
+            firsts[q] = ((first + 1) % k) as u8;
+            counts[q] = counts[q] - 1;
+            fill + b
+        }
+    }
+}

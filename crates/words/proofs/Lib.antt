@@ -1,0 +1,4 @@
+-- Laws of words, and the proofs of the functions.
+pub mod Bits
+pub mod Calling
+pub mod RoundTrip

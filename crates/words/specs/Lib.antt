@@ -1,0 +1,2 @@
+-- Calls and answers of slots as one number each.
+pub mod Words

@@ -4,6 +4,10 @@
 pub mod Fresh
 pub mod Promises
 pub mod Demand
+-- Many slots in one call.
+pub mod Runs
+-- Idle slots by the count.
+pub mod Passing
 -- The steps of a slot one at a time, and that in turn they are the slot.
 pub mod Steps
 pub mod InTurn

@@ -104,7 +104,7 @@ pub two : (x : State) (store : List ℕ) (call : Call) → keeps paper x ≡ tru
     → slot paper x store call ≡ refuse 2 x store
 two x store call e h = rw (e, lt-ltb (length store) (storeBytes (x .sizes)) h, refusal)
 
-same-but-marks : {y z : State} → y ≡ z → SameButMarks y z
+pub same-but-marks : {y z : State} → y ≡ z → SameButMarks y z
 same-but-marks q = record {
   same-sizes = ap (λ (y : State). y .sizes) q;
   same-phase = ap (λ (y : State). y .phase) q;

@@ -1,14 +1,18 @@
 // The packet buffer: its state by value, the making of one, the slot, and runs of many slots.
 ghost use mathlib.Core.Path.{_≡_};
 ghost use mathlib.Core.Bool.{true};
-ghost use Prim.Native.Nat.{_≤_};
-ghost use lib.ListN.{length};
+ghost use mathlib.Core.List.{_++_, map};
+ghost use Prim.Native.Nat.{_≤_, min};
+ghost use lib.ListN.{length, drop, replicate};
 ghost use Rattle.model.specs.Sizes.{paper, storeBytes};
 ghost use Rattle.model.specs.State.{keeps};
 ghost use Rattle.model.specs.Slot.{slot};
 ghost use Rattle.parts.specs.Calls.{callIn};
 ghost use Rattle.parts.specs.Views.{arrays, Long, sizesIn, stateIn};
 ghost use Rattle.slots.specs.Says.{answerIn};
+ghost use Rattle.words.specs.Words.{callOf};
+ghost use Rattle.runs.specs.Says.{RunSays};
+ghost use Rattle.buffer.specs.Runs.{RanSays};
 ghost use Rattle.buffer.specs.Demand.{CallsMeet};
 ghost use Rattle.buffer.specs.Says.{stateOf, freshState, MakeSays, refusedAt, SlotSays, StepSays};
 use caches::Chosen;
@@ -18,6 +22,7 @@ use parts::Request;
 use parts::Small;
 use slots::Advanced;
 
+mod idling;
 mod margin;
 pub mod moves;
 
@@ -48,6 +53,28 @@ pub struct Slotted {
     pub delivery: Delivery,
     pub written: Chosen,
     pub read: Chosen,
+}
+
+// The smaller of two numbers.
+fn smaller(a: usize, b: usize) -> usize
+    ensures { λ r. ⌜ r ≡ min a b ⌝ }
+{
+    if a < b {
+        return a;
+    }
+    b
+}
+
+// The first n answers are all one word.
+fn fill(answers: &mut [u64], n: usize, word: u64)
+    requires { ⌜ n ≤ length (now answers) ⌝ }
+    ensures { λ _. ⌜ now (answers .exit) ≡ replicate n word ++ drop n (now (answers .entry)) ⌝ }
+{
+    let mut i: usize = 0;
+    while i < n {
+        answers[i] = word;
+        i += 1;
+    }
 }
 
 // A slot that answers 3 or 2.
@@ -81,7 +108,7 @@ fn judge_and_advance(
         (now (store .exit))
         ≡ slot paper
         (stateIn small (arrays (now (tail .entry)) (now (head .entry)) (now (cells .entry)) (now (firsts .entry))
-            (now (counts .entry))))
+        (now (counts .entry))))
         (now (store .entry)) (callIn arrival request) ⌝ }
 {
     if rules::keeps_rules(tail, head, cells, firsts, counts, small) {
@@ -90,7 +117,20 @@ fn judge_and_advance(
             let mut tails = taken.tails;
             let mut heads = taken.heads;
             let mut owing = taken.owing;
-            return slots::advance(tail, head, cells, firsts, counts, &mut tails, &mut heads, &mut owing, small, arrival, request, store);
+            return slots::advance(
+                tail,
+                head,
+                cells,
+                firsts,
+                counts,
+                &mut tails,
+                &mut heads,
+                &mut owing,
+                small,
+                arrival,
+                request,
+                store,
+            );
         }
         return refused(small, 2);
     }
@@ -154,7 +194,20 @@ impl State {
         let mut tails = taken.tails;
         let mut heads = taken.heads;
         let mut owing = taken.owing;
-        let a = slots::advance(&mut tail, &mut head, &mut cells, &mut firsts, &mut counts, &mut tails, &mut heads, &mut owing, small, arrival, request, store);
+        let a = slots::advance(
+            &mut tail,
+            &mut head,
+            &mut cells,
+            &mut firsts,
+            &mut counts,
+            &mut tails,
+            &mut heads,
+            &mut owing,
+            small,
+            arrival,
+            request,
+            store,
+        );
         let number = a.number;
         if number != 0 {
             return Slotted {
@@ -196,12 +249,22 @@ impl State {
         let mut cells = self.cells;
         let mut firsts = self.firsts;
         let mut counts = self.counts;
-        let a = judge_and_advance(&mut tail, &mut head, &mut cells, &mut firsts, &mut counts, small, arrival, request, store);
-        let number = a.number;
-        if number != 0 {
+        let a = judge_and_advance(
+            &mut tail,
+            &mut head,
+            &mut cells,
+            &mut firsts,
+            &mut counts,
+            small,
+            arrival,
+            request,
+            store,
+        );
+        let judged = a.number;
+        if judged != 0 {
             return Slotted {
                 state: self,
-                number: number,
+                number: judged,
                 delivery: Delivery::NoDelivery,
                 written: Chosen::Nothing,
                 read: Chosen::Nothing,
@@ -210,7 +273,7 @@ impl State {
         let next = a.small;
         let delivery = a.delivery;
         let written = a.written;
-        let read = a.read;
+        let fetched = a.read;
         Slotted {
             state: State {
                 small: next,
@@ -223,13 +286,89 @@ impl State {
             number: 0,
             delivery: delivery,
             written: written,
-            read: read,
+            read: fetched,
         }
+    }
+
+    // The slots of all calls, of a state that keeps the rules, with a store that is long enough: the state is copied
+    // once, its counts are taken once, and each slot is in place.
+    fn run_kept(self, calls: &[u32], answers: &mut [u64], store: &mut [u8]) -> State
+        requires { ⌜ (keeps paper (stateOf self) ≡ true) × (storeBytes (sizesIn (self .small)) ≤ length (now store))
+            × (length (now calls) ≤ length (now answers)) ⌝ }
+        ensures { λ r. ⌜ RunSays (stateOf self) (now (store .entry)) (map callOf (now (calls .entry)))
+            (now (answers .entry)) (now (answers .exit)) (stateOf r) (now (store .exit))
+            × (keeps paper (stateOf r) ≡ true) ⌝ }
+    {
+        let small = self.small;
+        let mut tail = self.tail;
+        let mut head = self.head;
+        let mut cells = self.cells;
+        let mut firsts = self.firsts;
+        let mut counts = self.counts;
+        let taken = slots::take_counts(&tail, &head, &cells, small);
+        let mut tails = taken.tails;
+        let mut heads = taken.heads;
+        let mut owing = taken.owing;
+        let last = runs::run_calls(
+            &mut tail,
+            &mut head,
+            &mut cells,
+            &mut firsts,
+            &mut counts,
+            &mut tails,
+            &mut heads,
+            &mut owing,
+            small,
+            calls,
+            answers,
+            store,
+        );
+        State {
+            small: last,
+            tail: tail,
+            head: head,
+            cells: cells,
+            firsts: firsts,
+            counts: counts,
+        }
+    }
+
+    // Many slots, of any state and any store: as many calls as there are places for their answers. 3 and 2 are judged
+    // once, since a slot that is refused leaves state and store as they were.
+    pub fn run(self, calls: &[u32], answers: &mut [u64], store: &mut [u8]) -> State
+        ensures { λ r. ⌜ RanSays self (now (calls .entry)) (now (answers .entry)) (now (store .entry)) r
+            (now (answers .exit)) (now (store .exit)) ⌝ }
+    {
+        let small = self.small;
+        let n = smaller(calls.len(), answers.len());
+        if rules::keeps_rules(
+            &self.tail,
+            &self.head,
+            &self.cells,
+            &self.firsts,
+            &self.counts,
+            small,
+        ) {
+            let need = small.queues * small.blocks * small.block;
+            if need <= store.len() {
+                return self.run_kept(&calls[..n], answers, store);
+            }
+            let word = words::answer_word(
+                2,
+                Delivery::NoDelivery,
+                Chosen::Nothing,
+                Chosen::Nothing,
+            );
+            fill(answers, n, word);
+            return self;
+        }
+        let word = words::answer_word(3, Delivery::NoDelivery, Chosen::Nothing, Chosen::Nothing);
+        fill(answers, n, word);
+        self
     }
 }
 
 // Demand 3 over calls of this crate, as a contract, so that it is proved with the code.
 pub fn demand_3_over_calls()
     ensures { λ _. ⌜ CallsMeet ⌝ }
-{
-}
+{}

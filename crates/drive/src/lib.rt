@@ -2,6 +2,7 @@
 // outside. Each answers 0, or 1 where the sizes are refused.
 ghost use mathlib.Core.Path.{_≡_};
 ghost use Prim.Native.Nat.{_≤_};
+ghost use Rattle.drive.specs.Says.{DroveSays};
 use buffer::Slotted;
 use buffer::State;
 use caches::Chosen;
@@ -32,7 +33,14 @@ fn at_rest(state: State) -> Slotted
 
 // One checked slot by value for each call.
 #[no_mangle]
-pub extern "C" fn drive_slots(queues: usize, block: usize, blocks: usize, calls: &[u32], answers: &mut [u64], store: &mut [u8]) -> u8 {
+pub extern "C" fn drive_slots(
+    queues: usize,
+    block: usize,
+    blocks: usize,
+    calls: &[u32],
+    answers: &mut [u64],
+    store: &mut [u8],
+) -> u8 {
     let made = State::make(queues, block, blocks);
     if made.number != 0 {
         return 1;
@@ -57,7 +65,14 @@ pub extern "C" fn drive_slots(queues: usize, block: usize, blocks: usize, calls:
 
 // One unchecked step by value for each call; 2 where the store is too short.
 #[no_mangle]
-pub extern "C" fn drive_steps(queues: usize, block: usize, blocks: usize, calls: &[u32], answers: &mut [u64], store: &mut [u8]) -> u8 {
+pub extern "C" fn drive_steps(
+    queues: usize,
+    block: usize,
+    blocks: usize,
+    calls: &[u32],
+    answers: &mut [u64],
+    store: &mut [u8],
+) -> u8 {
     let made = State::make(queues, block, blocks);
     if made.number != 0 {
         return 1;
@@ -80,5 +95,50 @@ pub extern "C" fn drive_steps(queues: usize, block: usize, blocks: usize, calls:
         answers[i] = words::answer_word(r.number, delivery, written, read);
         i += 1;
     }
+    0
+}
+
+// All calls in one run, in place.
+#[no_mangle]
+pub extern "C" fn drive_run(
+    queues: usize,
+    block: usize,
+    blocks: usize,
+    calls: &[u32],
+    answers: &mut [u64],
+    store: &mut [u8],
+) -> u8
+    ensures { λ r. ⌜ DroveSays queues block blocks (now (calls .entry)) (now (answers .entry)) (now (answers .exit))
+        (now (store .entry)) (now (store .exit)) r ⌝ }
+{
+    let made = State::make(queues, block, blocks);
+    let number = made.number;
+    if number != 0 {
+        return 1;
+    }
+    let state = made.state;
+    let last = state.run(calls, answers, store);
+    0
+}
+
+// All calls in one run, and then so many idle slots by the count.
+#[no_mangle]
+pub extern "C" fn drive_idle(
+    queues: usize,
+    block: usize,
+    blocks: usize,
+    calls: &[u32],
+    answers: &mut [u64],
+    store: &mut [u8],
+    idle_slots: usize,
+) -> u8 {
+    let made = State::make(queues, block, blocks);
+    let number = made.number;
+    if number != 0 {
+        return 1;
+    }
+    let state = made.state;
+    let reached = state.run(calls, answers, store);
+    let last = reached.idle(idle_slots, store);
     0
 }

@@ -33,14 +33,27 @@ pub fn answer_call(
         (now tails) (now heads) (now owing) (now store) ⌝ }
     ensures { λ r. ⌜ CalledSays
         (stateIn small (arrays (now (tail .entry)) (now (head .entry)) (now (cells .entry)) (now (firsts .entry))
-            (now (counts .entry))))
+        (now (counts .entry))))
         (now (store .entry)) (callOf call) r
         (arrays (now (tail .exit)) (now (head .exit)) (now (cells .exit)) (now (firsts .exit)) (now (counts .exit)))
         (now (tails .exit)) (now (heads .exit)) (now (owing .exit)) (now (store .exit)) ⌝ }
 {
     let arrival = words::arrival_in(call);
     let request = words::request_in(call);
-    let a = slots::advance(tail, head, cells, firsts, counts, tails, heads, owing, small, arrival, request, store);
+    let a = slots::advance(
+        tail,
+        head,
+        cells,
+        firsts,
+        counts,
+        tails,
+        heads,
+        owing,
+        small,
+        arrival,
+        request,
+        store,
+    );
     let next = a.small;
     let number = a.number;
     let delivery = a.delivery;
@@ -73,19 +86,31 @@ pub fn run_calls(
         × (length (now calls) ≤ length (now answers)) ⌝ }
     ensures { λ r. ⌜ RunSays
         (stateIn small (arrays (now (tail .entry)) (now (head .entry)) (now (cells .entry)) (now (firsts .entry))
-            (now (counts .entry))))
+        (now (counts .entry))))
         (now (store .entry)) (map callOf (now (calls .entry))) (now (answers .entry)) (now (answers .exit))
         (stateIn r (arrays (now (tail .exit)) (now (head .exit)) (now (cells .exit)) (now (firsts .exit))
-            (now (counts .exit))))
+        (now (counts .exit))))
         (now (store .exit))
         × Ready r (arrays (now (tail .exit)) (now (head .exit)) (now (cells .exit)) (now (firsts .exit))
-            (now (counts .exit)))
+        (now (counts .exit)))
         (now (tails .exit)) (now (heads .exit)) (now (owing .exit)) (now (store .exit)) ⌝ }
 {
     let mut next = small;
     let mut i: usize = 0;
     while i < calls.len() {
-        let called = answer_call(tail, head, cells, firsts, counts, tails, heads, owing, next, calls[i], store);
+        let called = answer_call(
+            tail,
+            head,
+            cells,
+            firsts,
+            counts,
+            tails,
+            heads,
+            owing,
+            next,
+            calls[i],
+            store,
+        );
         next = called.small;
         answers[i] = called.word;
         i += 1;

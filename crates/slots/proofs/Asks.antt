@@ -156,56 +156,56 @@ module _ (small : Small) (m : Arrays) (store : List ℕ) (call : Call) (isOwed�
 
       module _ (w : ℕ) (tail₃ counts₁ store₁ : List ℕ)
           (s5 : WriteSays (sizesIn small) (a .fill) written (m .firsts) (m .counts) counts₁ tail₂ tail₃ store store₁ w)
-          where
-        rings-now : ringsIn (small .queues) (m .firsts) counts₁ ≡ wrote x call .rings
-        rings-now = rings-1 small m store call isOwed′ written readQueue long d g head₁ tail₁ tail₂ cells₁ joined′ a
-            oldest s1 s2 s3 s4 w tail₃ counts₁ store₁ s5
+        where
+          rings-now : ringsIn (small .queues) (m .firsts) counts₁ ≡ wrote x call .rings
+          rings-now = rings-1 small m store call isOwed′ written readQueue long d g head₁ tail₁ tail₂ cells₁ joined′ a
+              oldest s1 s2 s3 s4 w tail₃ counts₁ store₁ s5
 
-        store-now : store₁ ≡ wroteStore x store call
-        store-now = store-1 small m store call isOwed′ written readQueue long d g head₁ tail₁ tail₂ cells₁ joined′ a
-            oldest s1 s2 s3 s4 w tail₃ counts₁ store₁ s5
+          store-now : store₁ ≡ wroteStore x store call
+          store-now = store-1 small m store call isOwed′ written readQueue long d g head₁ tail₁ tail₂ cells₁ joined′ a
+              oldest s1 s2 s3 s4 w tail₃ counts₁ store₁ s5
 
-        pub same-store : length store₁ ≡ length store
-        same-store = ap length store-now ∙ same-length paper x store call some-cell j
+          pub same-store : length store₁ ≡ length store
+          same-store = ap length store-now ∙ same-length paper x store call some-cell j
 
-        pub head-still-in : g .fill ≤ length head₁
-        head-still-in = omega (arith, s1 .fill-low, s1 .same-length, head-in)
+          pub head-still-in : g .fill ≤ length head₁
+          head-still-in = omega (arith, s1 .fill-low, s1 .same-length, head-in)
 
-        -- 4. The read.
-        pub block-to-read : (q : ℕ) → readQueue ≡ some q
-            → (q < small .queues)
-            × (g .fill + small .block ≤ length head₁)
-            × (countsIn (m .firsts) q < small .blocks)
-            × (1 ≤ countsIn counts₁ q)
-        block-to-read q e = (
-          taken .0,
-          omega (
-            arith,
-            room,
-            bytes-length (g .fill) head₁ head-still-in,
-            ap length head-now,
-            head-below-array (sizesIn small) sizes-ok,
-            s1 .same-length,
-            long .head-long,
-          ),
-          subst (λ (r : Ring). r .first < small .blocks) at (after .firsts q (taken .0)),
-          subst (λ (r : Ring). 1 ≤ r .count) at (taken .1),
-        )
-          where
-            after : Rules l (wrote x call)
-            after = rules-written paper x store call some-cell j
+          -- 4. The read.
+          pub block-to-read : (q : ℕ) → readQueue ≡ some q
+              → (q < small .queues)
+              × (g .fill + small .block ≤ length head₁)
+              × (countsIn (m .firsts) q < small .blocks)
+              × (1 ≤ countsIn counts₁ q)
+          block-to-read q e = (
+            taken .0,
+            omega (
+              arith,
+              room,
+              bytes-length (g .fill) head₁ head-still-in,
+              ap length head-now,
+              head-below-array (sizesIn small) sizes-ok,
+              s1 .same-length,
+              long .head-long,
+            ),
+            subst (λ (r : Ring). r .first < small .blocks) at (after .firsts q (taken .0)),
+            subst (λ (r : Ring). 1 ≤ r .count) at (taken .1),
+          )
+            where
+              after : Rules l (wrote x call)
+              after = rules-written paper x store call some-cell j
 
-            read-now : queueToRead (wrote x call) ≡ some q
-            read-now = sym (d .read-is) ∙ e
+              read-now : queueToRead (wrote x call) ≡ some q
+              read-now = sym (d .read-is) ∙ e
 
-            taken : (q < small .queues) × (1 ≤ blocks (wrote x call) q)
-            taken = read-taken l (wrote x call) after q read-now
+              taken : (q < small .queues) × (1 ≤ blocks (wrote x call) q)
+              taken = read-taken l (wrote x call) after q read-now
 
-            at : ringOf (wrote x call .rings) q ≡ ring (countsIn (m .firsts) q) (countsIn counts₁ q)
-            at = sym (ap (λ (r : List Ring). ringOf r q) rings-now)
-                ∙ ring-at (small .queues) (m .firsts) counts₁ q (taken .0)
+              at : ringOf (wrote x call .rings) q ≡ ring (countsIn (m .firsts) q) (countsIn counts₁ q)
+              at = sym (ap (λ (r : List Ring). ringOf r q) rings-now)
+                  ∙ ring-at (small .queues) (m .firsts) counts₁ q (taken .0)
 
-            room : length (wrote x call .head) + small .block ≤ headSize (sizesIn small)
-            room = ltb-false (headSize (sizesIn small)) (length (wrote x call .head) + small .block)
-                (sym (ap (headFull (wrote x call)) read-now)
-                ∙ accepted small m store call isOwed′ written readQueue long d .head-room)
+              room : length (wrote x call .head) + small .block ≤ headSize (sizesIn small)
+              room = ltb-false (headSize (sizesIn small)) (length (wrote x call .head) + small .block)
+                  (sym (ap (headFull (wrote x call)) read-now)
+                  ∙ accepted small m store call isOwed′ written readQueue long d .head-room)

@@ -72,74 +72,74 @@ module _ (small : Small) (m : Arrays) (store : List ℕ) (call : Call) (isOwed�
 
     module _ (w : ℕ) (tail₃ counts₁ store₁ : List ℕ)
         (s5 : WriteSays (sizesIn small) (a .fill) written (m .firsts) (m .counts) counts₁ tail₂ tail₃ store store₁ w)
-        where
-      pub tail-3 : bytesIn w tail₃ ≡ wrote x call .tail
-      tail-3 =
-          s5 .tail-is
-          ∙ ap (λ (t : List Byte). tailWritten written (moving (sizesIn small) t [] (x .rings))) tail-2
-          ∙ moving-tail written (asked x call)
-          ∙ ap (λ (o : Option ℕ). tailWritten o (asked x call)) (d .written-is)
+      where
+        pub tail-3 : bytesIn w tail₃ ≡ wrote x call .tail
+        tail-3 =
+            s5 .tail-is
+            ∙ ap (λ (t : List Byte). tailWritten written (moving (sizesIn small) t [] (x .rings))) tail-2
+            ∙ moving-tail written (asked x call)
+            ∙ ap (λ (o : Option ℕ). tailWritten o (asked x call)) (d .written-is)
 
-      pub rings-1 : ringsIn (small .queues) (m .firsts) counts₁ ≡ wrote x call .rings
-      rings-1 =
-          s5 .rings-are
-          ∙ ap (λ (t : List Byte). ringsWritten written (moving (sizesIn small) t [] (x .rings))) tail-2
-          ∙ moving-rings written (asked x call)
-          ∙ ap (λ (o : Option ℕ). ringsWritten o (asked x call)) (d .written-is)
+        pub rings-1 : ringsIn (small .queues) (m .firsts) counts₁ ≡ wrote x call .rings
+        rings-1 =
+            s5 .rings-are
+            ∙ ap (λ (t : List Byte). ringsWritten written (moving (sizesIn small) t [] (x .rings))) tail-2
+            ∙ moving-rings written (asked x call)
+            ∙ ap (λ (o : Option ℕ). ringsWritten o (asked x call)) (d .written-is)
 
-      pub store-1 : store₁ ≡ wroteStore x store call
-      store-1 =
-          s5 .store-is
-          ∙ ap (λ (t : List Byte). storeWritten written (moving (sizesIn small) t [] (x .rings)) store) tail-2
-          ∙ moving-store written (asked x call) store
-          ∙ ap (λ (o : Option ℕ). storeWritten o (asked x call) store) (d .written-is)
+        pub store-1 : store₁ ≡ wroteStore x store call
+        store-1 =
+            s5 .store-is
+            ∙ ap (λ (t : List Byte). storeWritten written (moving (sizesIn small) t [] (x .rings)) store) tail-2
+            ∙ moving-store written (asked x call) store
+            ∙ ap (λ (o : Option ℕ). storeWritten o (asked x call) store) (d .written-is)
 
-      module _ (h : ℕ) (head₂ firsts₁ counts₂ : List ℕ)
-          (s6 : ReadSays (sizesIn small) (g .fill) readQueue (m .firsts) counts₁ firsts₁ counts₂ head₁ head₂ store₁ h)
+        module _ (h : ℕ) (head₂ firsts₁ counts₂ : List ℕ)
+            (s6 : ReadSays (sizesIn small) (g .fill) readQueue (m .firsts) counts₁ firsts₁ counts₂ head₁ head₂ store₁ h)
           where
-        pub head-2 : bytesIn h head₂ ≡ refilled x store call .head
-        head-2 =
-            s6 .head-is
-            ∙ ap (λ (t : List Byte). headRead readQueue (moving (sizesIn small) [] t rings′) store₁) head-1
-            ∙ ap (λ (r : List Ring). headRead readQueue (moving (sizesIn small) [] (wrote x call .head) r) store₁) rings-1
-            ∙ moving-head readQueue (wrote x call) store₁
-            ∙ ap (λ (o : Option ℕ). headRead o (wrote x call) store₁) (d .read-is)
-            ∙ ap (λ (t : List ℕ). headRead (queueToRead (wrote x call)) (wrote x call) t) store-1
-          where
-            rings′ : List Ring
-            rings′ = ringsIn (small .queues) (m .firsts) counts₁
+            pub head-2 : bytesIn h head₂ ≡ refilled x store call .head
+            head-2 =
+                s6 .head-is
+                ∙ ap (λ (t : List Byte). headRead readQueue (moving (sizesIn small) [] t rings′) store₁) head-1
+                ∙ ap (λ (r : List Ring). headRead readQueue (moving (sizesIn small) [] (wrote x call .head) r) store₁) rings-1
+                ∙ moving-head readQueue (wrote x call) store₁
+                ∙ ap (λ (o : Option ℕ). headRead o (wrote x call) store₁) (d .read-is)
+                ∙ ap (λ (t : List ℕ). headRead (queueToRead (wrote x call)) (wrote x call) t) store-1
+              where
+                rings′ : List Ring
+                rings′ = ringsIn (small .queues) (m .firsts) counts₁
 
-        pub rings-2 : ringsIn (small .queues) firsts₁ counts₂ ≡ refilled x store call .rings
-        rings-2 =
-            s6 .rings-are
-            ∙ ap (λ (t : List Byte). ringsRead readQueue (moving (sizesIn small) [] t rings′)) head-1
-            ∙ ap (λ (r : List Ring). ringsRead readQueue (moving (sizesIn small) [] (wrote x call .head) r)) rings-1
-            ∙ moving-read readQueue (wrote x call)
-            ∙ ap (λ (o : Option ℕ). ringsRead o (wrote x call)) (d .read-is)
-          where
-            rings′ : List Ring
-            rings′ = ringsIn (small .queues) (m .firsts) counts₁
+            pub rings-2 : ringsIn (small .queues) firsts₁ counts₂ ≡ refilled x store call .rings
+            rings-2 =
+                s6 .rings-are
+                ∙ ap (λ (t : List Byte). ringsRead readQueue (moving (sizesIn small) [] t rings′)) head-1
+                ∙ ap (λ (r : List Ring). ringsRead readQueue (moving (sizesIn small) [] (wrote x call .head) r)) rings-1
+                ∙ moving-read readQueue (wrote x call)
+                ∙ ap (λ (o : Option ℕ). ringsRead o (wrote x call)) (d .read-is)
+              where
+                rings′ : List Ring
+                rings′ = ringsIn (small .queues) (m .firsts) counts₁
 
-        -- All of the state, with the phase and the marks that code computes.
-        pub state-after : (p j t : ℕ)
-            → p ≡ choose (moves x) 0 (small .phase + 1)
-            → j ≡ max (small .«tail_mark») joined′
-            → t ≡ max (small .«head_mark») h
-            → joined′ ≡ length (joined x call .tail)
-            → h ≡ length (refilled x store call .head)
-            → stateIn
-            (record {
-              queues = small .queues;
-              block = small .block;
-              blocks = small .blocks;
-              phase = p;
-              «tail_fill» = w;
-              «head_fill» = h;
-              «tail_mark» = j;
-              «head_mark» = t;
-            })
-            (arrays tail₃ head₂ cells₁ firsts₁ counts₂)
-            ≡ accept x store call .state
-        state-after p j t ep ej et fj fh =
-            same-state (sizesIn small) ep tail-3 head-2 cells-1 rings-2 (ej ∙ ap (max (small .«tail_mark»)) fj)
-            (et ∙ ap (max (small .«head_mark»)) fh)
+            -- All of the state, with the phase and the marks that code computes.
+            pub state-after : (p j t : ℕ)
+                → p ≡ choose (moves x) 0 (small .phase + 1)
+                → j ≡ max (small .«tail_mark») joined′
+                → t ≡ max (small .«head_mark») h
+                → joined′ ≡ length (joined x call .tail)
+                → h ≡ length (refilled x store call .head)
+                → stateIn
+                (record {
+                  queues = small .queues;
+                  block = small .block;
+                  blocks = small .blocks;
+                  phase = p;
+                  «tail_fill» = w;
+                  «head_fill» = h;
+                  «tail_mark» = j;
+                  «head_mark» = t;
+                })
+                (arrays tail₃ head₂ cells₁ firsts₁ counts₂)
+                ≡ accept x store call .state
+            state-after p j t ep ej et fj fh =
+                same-state (sizesIn small) ep tail-3 head-2 cells-1 rings-2 (ej ∙ ap (max (small .«tail_mark»)) fj)
+                (et ∙ ap (max (small .«head_mark»)) fh)

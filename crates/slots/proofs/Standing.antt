@@ -82,10 +82,18 @@ pub record Countable (small : Small) (m : Arrays) : Type 0 where
 
 pub countable : (small : Small) (m : Arrays) → Long m → keeps paper (stateIn small m) ≡ true → Countable small m
 countable small m long kept = record {
-  tail-in = omega (arith, long .tail-long, fill-within (small .«tail_fill») (m .tail)
-      (omega (arith, v .tail-fits, tail-below-array (sizesIn small) (v .sizes-ok), long .tail-long)));
-  head-in = omega (arith, long .head-long, fill-within (small .«head_fill») (m .head)
-      (omega (arith, v .head-fits, head-below-array (sizesIn small) (v .sizes-ok), long .head-long)));
+  tail-in = omega (
+    arith,
+    long .tail-long,
+    fill-within (small .«tail_fill») (m .tail)
+        (omega (arith, v .tail-fits, tail-below-array (sizesIn small) (v .sizes-ok), long .tail-long)),
+  );
+  head-in = omega (
+    arith,
+    long .head-long,
+    fill-within (small .«head_fill») (m .head)
+        (omega (arith, v .head-fits, head-below-array (sizesIn small) (v .sizes-ok), long .head-long)),
+  );
   sizes-ok = v .sizes-ok;
   tail-known = bytes-below-more (small .queues) 64 (x .tail) few (v .within .tail-below);
   head-known = bytes-below-more (small .queues) 64 (x .head) few (v .within .head-below);

@@ -48,13 +48,26 @@ pub struct Carried {
 }
 
 // The five steps of a slot of which all is decided.
-pub fn carry(tail: &mut [u16; 2144], head: &mut [u16; 4034], cells: &mut [u32; 2017], firsts: &mut [u8; 64], counts: &mut [u8; 64], small: Small, arrival: Arrival, request: Request, owes: bool, written: Chosen, read: Chosen, store: &mut [u8]) -> Carried
+pub fn carry(
+    tail: &mut [u16; 2144],
+    head: &mut [u16; 4034],
+    cells: &mut [u32; 2017],
+    firsts: &mut [u8; 64],
+    counts: &mut [u8; 64],
+    small: Small,
+    arrival: Arrival,
+    request: Request,
+    owes: bool,
+    written: Chosen,
+    read: Chosen,
+    store: &mut [u8],
+) -> Carried
     requires { ⌜ Long (arrays (now tail) (now head) (now cells) (now firsts) (now counts))
         × Decided (stateIn small (arrays (now tail) (now head) (now cells) (now firsts) (now counts))) (now store)
-            (callIn arrival request) owes (chosenIn written) (chosenIn read) ⌝ }
+        (callIn arrival request) owes (chosenIn written) (chosenIn read) ⌝ }
     ensures { λ r. ⌜ CarrySays
         (stateIn small (arrays (now (tail .entry)) (now (head .entry)) (now (cells .entry)) (now (firsts .entry))
-            (now (counts .entry))))
+        (now (counts .entry))))
         (now (store .entry)) (callIn arrival request) r
         (arrays (now (tail .exit)) (now (head .exit)) (now (cells .exit)) (now (firsts .exit)) (now (counts .exit)))
         (now (store .exit)) ⌝ }
@@ -98,7 +111,12 @@ pub struct Counts {
 }
 
 // The counts of a state, taken once for many slots.
-pub fn take_counts<'a>(tail: &'a [u16; 2144], head: &'a [u16; 4034], cells: &'a [u32; 2017], small: Small) -> Counts
+pub fn take_counts<'a>(
+    tail: &'a [u16; 2144],
+    head: &'a [u16; 4034],
+    cells: &'a [u32; 2017],
+    small: Small,
+) -> Counts
     requires { ⌜ (length (now tail) ≡ 2144) × (length (now head) ≡ 4034) × (length (now cells) ≡ 2017)
         × (small .«tail_fill» ≤ 2144) × (small .«head_fill» ≤ 4034) × (accepts paperLimits (sizesIn small) ≡ true)
         × (allOf (byteBelow 64) (bytesIn (small .«tail_fill») (now tail)) ≡ true)
@@ -147,7 +165,7 @@ pub fn advance(
         (now tails) (now heads) (now owing) (now store) ⌝ }
     ensures { λ r. ⌜ AdvanceSays
         (stateIn small (arrays (now (tail .entry)) (now (head .entry)) (now (cells .entry)) (now (firsts .entry))
-            (now (counts .entry))))
+        (now (counts .entry))))
         (now (store .entry)) (callIn arrival request) r
         (arrays (now (tail .exit)) (now (head .exit)) (now (cells .exit)) (now (firsts .exit)) (now (counts .exit)))
         (now (tails .exit)) (now (heads .exit)) (now (owing .exit)) (now (store .exit)) ⌝ }
@@ -166,8 +184,31 @@ pub fn advance(
     let owes = plan.owes;
     let read = plan.read;
     let cell = cells[0];
-    let written = counts::turn(tails, heads, owing, small, cell, arrival, request, owes, read);
-    let carried = carry(tail, head, cells, firsts, counts, small, arrival, request, owes, written, read, store);
+    let written = counts::turn(
+        tails,
+        heads,
+        owing,
+        small,
+        cell,
+        arrival,
+        request,
+        owes,
+        read,
+    );
+    let carried = carry(
+        tail,
+        head,
+        cells,
+        firsts,
+        counts,
+        small,
+        arrival,
+        request,
+        owes,
+        written,
+        read,
+        store,
+    );
     let next = carried.small;
     let delivery = carried.delivery;
     Advanced {

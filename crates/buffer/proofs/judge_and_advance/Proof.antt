@@ -41,9 +41,17 @@ take-counts-requires c κs =
     let s = c .before .before .before .before .before .before .before .before .before .before .before .before .before .before in
     let l = s .pre in
     let kept = sym (c .before .before .before .before .before .before .before .keeps-rules .ensures) ∙ c .before .before .before .before .before .before .if1 .taken in
-    let k = countable (s .args .small) (memory s) l kept in
-    (l .tail-long, l .head-long, l .cells-long, k .tail-in, k .head-in, k .sizes-ok, k .tail-known, k .head-known,
-    k .cells-known)
+    let k = countable (s .args .small) (memory s) l kept in (
+      l .tail-long,
+      l .head-long,
+      l .cells-long,
+      k .tail-in,
+      k .head-in,
+      k .sizes-ok,
+      k .tail-known,
+      k .head-known,
+      k .cells-known,
+    )
 
 advance-requires : tie.Need-advance-requires
 advance-requires c κs =

@@ -53,10 +53,14 @@ loop-holds c =
     let rest = c .at-rest .ensures in
     let few = c .before .smaller .ensures in
     let kept = keeps-made (a .queues) (a .block) (a .blocks) _ (c .before .before .before .before .before .make .ensures) (c .before .before .before .if1 .left) in
-    let need = need-made (a .queues) (a .block) (a .blocks) _ (c .before .before .before .before .before .make .ensures) (c .before .before .before .if1 .left) in
-    (refl, refl, few .0, few .1,
-    ap (λ (z : code.State). keeps paper (stateOf z)) rest ∙ kept,
-    omega (arith, ap (λ (z : code.State). storeBytes (stateOf z .sizes)) rest, need, c .before .before .if2 .left))
+    let need = need-made (a .queues) (a .block) (a .blocks) _ (c .before .before .before .before .before .make .ensures) (c .before .before .before .if1 .left) in (
+      refl,
+      refl,
+      few .0,
+      few .1,
+      ap (λ (z : code.State). keeps paper (stateOf z)) rest ∙ kept,
+      omega (arith, ap (λ (z : code.State). storeBytes (stateOf z .sizes)) rest, need, c .before .before .if2 .left),
+    )
 
 mul-call : tie.Need-mul-call Inv-loop μ-loop
 mul-call c =
@@ -93,10 +97,14 @@ loop-less c = search needs
 loop-again : tie.Need-loop-again Inv-loop μ-loop
 loop-again c =
     let loop = c .before .before .before .before .before .before .before .before .before .before .loop in
-    let says = c .before .before .before .step .ensures in
-    (length-set (loop .answers) (loop .i) _ ∙ loop .inv .0, c .before .before .store .given ∙ loop .inv .1, loop .inv .2, loop .inv .3,
-    says .kept,
-    omega (arith, ap storeBytes (says .same-sizes), loop .inv .5, says .same-length))
+    let says = c .before .before .before .step .ensures in (
+      length-set (loop .answers) (loop .i) _ ∙ loop .inv .0,
+      c .before .before .store .given ∙ loop .inv .1,
+      loop .inv .2,
+      loop .inv .3,
+      says .kept,
+      omega (arith, ap storeBytes (says .same-sizes), loop .inv .5, says .same-length),
+    )
 
 same-length : tie.Need-same-length Inv-loop μ-loop
 same-length c = search needs

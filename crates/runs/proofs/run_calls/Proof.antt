@@ -61,13 +61,14 @@ loop-again c =
     let loop = c .before .before .before .before .before .before .before .before .before .before .before .before .before .before .before .loop in
     let turn = c .before .before .before .answer-call .ensures in
     let all = length-map (s .args .calls .now) callOf in
-    let there = c .before .before .before .before .before .before .before .before .before .before .before .before .before .before .loop-test .taken in
-    (turn .ready,
-    run-turn (loop .inv .1) (callOf 0) (callOf (getD (s .args .calls .now) (loop .i) 0))
-    (call-at (s .args .calls .now) (loop .i)) (omega (arith, there, all)) (omega (arith, s .pre .1, all)) _ _ _ _ _ _ turn,
-    length-set (loop .answers) (loop .i) _ ∙ loop .inv .2,
-    store-kept _ (arrays (loop .tail) (loop .head) (loop .cells) (loop .firsts) (loop .counts)) _ _ _ _ _ _ _ _ _ _ _
-    (loop .inv .0) turn ∙ loop .inv .3)
+    let there = c .before .before .before .before .before .before .before .before .before .before .before .before .before .before .loop-test .taken in (
+      turn .ready,
+      run-turn (loop .inv .1) (callOf 0) (callOf (getD (s .args .calls .now) (loop .i) 0))
+          (call-at (s .args .calls .now) (loop .i)) (omega (arith, there, all)) (omega (arith, s .pre .1, all)) _ _ _ _ _ _ turn,
+      length-set (loop .answers) (loop .i) _ ∙ loop .inv .2,
+      store-kept _ (arrays (loop .tail) (loop .head) (loop .cells) (loop .firsts) (loop .counts)) _ _ _ _ _ _ _ _ _ _ _
+          (loop .inv .0) turn ∙ loop .inv .3,
+    )
 
 same-length : tie.Need-same-length Inv-loop μ-loop
 same-length c = c .before .loop .inv .2
@@ -77,9 +78,10 @@ same-length-2 c = c .before .loop .inv .3
 
 returns : tie.Need-returns Inv-loop μ-loop
 returns c =
-    let s = c .before .before .before .before .before in
-    (run-ends (c .before .loop .inv .1) (omega (arith, length-map (s .args .calls .now) callOf, c .loop-test .left)),
-    c .before .loop .inv .0)
+    let s = c .before .before .before .before .before in (
+      run-ends (c .before .loop .inv .1) (omega (arith, length-map (s .args .calls .now) callOf, c .loop-test .left)),
+      c .before .loop .inv .0,
+    )
 
 pub run-calls-spec : {M : Type 1} → statement M
 run-calls-spec =

@@ -22,10 +22,17 @@ judge-slot-requires : tie.Need-judge-slot-requires
 judge-slot-requires c κs =
     let s = c .before .before .before .before .before .before in
     let r = s .pre in
-    let v = standing.kept (s .args .small) (memory s) _ _ _ _ r in
-    (v .sizes-ok, v .phase-ok, omega (arith, standing.head-in (s .args .small) (memory s) _ _ _ _ r),
-    r .tallies .tails-are .long, r .tallies .heads-are .long, r .tallies .owed-are .long, r .long .counts-long,
-    r .long .cells-long, standing.cells-known (s .args .small) (memory s) _ _ _ _ r)
+    let v = standing.kept (s .args .small) (memory s) _ _ _ _ r in (
+      v .sizes-ok,
+      v .phase-ok,
+      omega (arith, standing.head-in (s .args .small) (memory s) _ _ _ _ r),
+      r .tallies .tails-are .long,
+      r .tallies .heads-are .long,
+      r .tallies .owed-are .long,
+      r .long .counts-long,
+      r .long .cells-long,
+      standing.cells-known (s .args .small) (memory s) _ _ _ _ r,
+    )
 
 returns : tie.Need-returns
 returns c =
@@ -46,25 +53,31 @@ turn-requires c κs =
     let r = s .pre in
     let v = standing.kept (s .args .small) (memory s) _ _ _ _ r in
     let says = c .before .before .before .before .before .judge-slot .ensures in
-    let none = c .before .before .before .before .if1 .left in
-    (v .sizes-ok, v .phase-ok, r .tallies .tails-are .long, r .tallies .heads-are .long, r .tallies .owed-are .long,
-    standing.tails-small (s .args .small) (memory s) _ _ _ _ r,
-    standing.heads-small (s .args .small) (memory s) _ _ _ _ r,
-    standing.owing-small (s .args .small) (memory s) _ _ _ _ r,
-    deciding.leaving-there (s .args .small) (memory s) _ _ _ _ r (asked-call s) _ says none,
-    deciding.arrival-there (s .args .small) (memory s) _ _ _ _ r (asked-call s) _ says none,
-    deciding.request-there (s .args .small) (memory s) _ _ _ _ r (asked-call s) _ says none,
-    deciding.byte-there (s .args .small) (memory s) _ _ _ _ r (asked-call s) _ says none,
-    deciding.read-there (s .args .small) (memory s) _ _ _ _ r (asked-call s) _ says none)
+    let none = c .before .before .before .before .if1 .left in (
+      v .sizes-ok,
+      v .phase-ok,
+      r .tallies .tails-are .long,
+      r .tallies .heads-are .long,
+      r .tallies .owed-are .long,
+      standing.tails-small (s .args .small) (memory s) _ _ _ _ r,
+      standing.heads-small (s .args .small) (memory s) _ _ _ _ r,
+      standing.owing-small (s .args .small) (memory s) _ _ _ _ r,
+      deciding.leaving-there (s .args .small) (memory s) _ _ _ _ r (asked-call s) _ says none,
+      deciding.arrival-there (s .args .small) (memory s) _ _ _ _ r (asked-call s) _ says none,
+      deciding.request-there (s .args .small) (memory s) _ _ _ _ r (asked-call s) _ says none,
+      deciding.byte-there (s .args .small) (memory s) _ _ _ _ r (asked-call s) _ says none,
+      deciding.read-there (s .args .small) (memory s) _ _ _ _ r (asked-call s) _ says none,
+    )
 
 carry-requires : tie.Need-carry-requires
 carry-requires c κs =
     let s = c .before .before .before .before .before .before .before .before .before .before .before .before .before .before .before .before .before .before .before in
     let says = c .before .before .before .before .before .before .before .before .before .before .before .before .judge-slot .ensures in
     let none = c .before .before .before .before .before .before .before .before .before .before .before .if1 .left in
-    let turned = c .before .before .before .before .before .before .turn .ensures in
-    (s .pre .long,
-    deciding.decided (s .args .small) (memory s) _ _ _ _ (s .pre) (asked-call s) _ says none _ _ _ _ turned)
+    let turned = c .before .before .before .before .before .before .turn .ensures in (
+      s .pre .long,
+      deciding.decided (s .args .small) (memory s) _ _ _ _ (s .pre) (asked-call s) _ says none _ _ _ _ turned,
+    )
 
 same-length : tie.Need-same-length
 same-length c = search needs

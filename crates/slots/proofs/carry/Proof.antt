@@ -27,9 +27,10 @@ element-copy-out-cell c = search needs
 deliver-requires : tie.Need-deliver-requires
 deliver-requires c κs =
     let s = c .before .before .before in
-    let d = s .pre .1 in
-    (omega (arith, asks.head-in (s .args .small) (memory s) _ _ _ _ _ (s .pre .0) d),
-    asks.byte-to-deliver (s .args .small) (memory s) _ _ _ _ _ (s .pre .0) d)
+    let d = s .pre .1 in (
+      omega (arith, asks.head-in (s .args .small) (memory s) _ _ _ _ _ (s .pre .0) d),
+      asks.byte-to-deliver (s .args .small) (memory s) _ _ _ _ _ (s .pre .0) d,
+    )
 
 arrive-requires : tie.Need-arrive-requires
 arrive-requires c κs =
@@ -41,9 +42,10 @@ ask-requires : tie.Need-ask-requires
 ask-requires c κs =
     let s = c .before .before .before .before .before .before .before in
     let s1 = c .before .before .before .deliver .ensures in
-    let s2 = c .before .arrive .ensures in
-    (asks.joined-in (s .args .small) (memory s) _ _ _ _ _ (s .pre .0) (s .pre .1) _ _ _ _ s1 s2,
-    asks.byte-to-hold (s .args .small) (memory s) _ _ _ _ _ (s .pre .0) (s .pre .1) _ _ _ _ s1 s2)
+    let s2 = c .before .arrive .ensures in (
+      asks.joined-in (s .args .small) (memory s) _ _ _ _ _ (s .pre .0) (s .pre .1) _ _ _ _ s1 s2,
+      asks.byte-to-hold (s .args .small) (memory s) _ _ _ _ _ (s .pre .0) (s .pre .1) _ _ _ _ s1 s2,
+    )
 
 sub-shift : tie.Need-sub-shift
 sub-shift c =
@@ -72,13 +74,14 @@ write-requires c κs =
     let s2 = c .before .before .before .before .before .before .before .before .before .before .arrive .ensures in
     let s3 = c .before .before .before .before .before .before .before .before .ask .ensures in
     let s4 = c .before .before .before .before .shift .ensures in
-    let d = s .pre .1 in
-    (asks.asked-in (s .args .small) (memory s) _ _ _ _ _ (s .pre .0) d _ _ _ _ s1 s2 _ _ _ s3 s4,
-    asks.sizes-ok (s .args .small) (memory s) _ _ _ _ _ (s .pre .0) d,
-    asks.judged′ (s .args .small) (memory s) _ _ _ _ _ (s .pre .0) d .store-long,
-    s .pre .0 .firsts-long,
-    s .pre .0 .counts-long,
-    asks.block-to-write (s .args .small) (memory s) _ _ _ _ _ (s .pre .0) d _ _ _ _ s1 s2 _ _ _ s3 s4)
+    let d = s .pre .1 in (
+      asks.asked-in (s .args .small) (memory s) _ _ _ _ _ (s .pre .0) d _ _ _ _ s1 s2 _ _ _ s3 s4,
+      asks.sizes-ok (s .args .small) (memory s) _ _ _ _ _ (s .pre .0) d,
+      asks.judged′ (s .args .small) (memory s) _ _ _ _ _ (s .pre .0) d .store-long,
+      s .pre .0 .firsts-long,
+      s .pre .0 .counts-long,
+      asks.block-to-write (s .args .small) (memory s) _ _ _ _ _ (s .pre .0) d _ _ _ _ s1 s2 _ _ _ s3 s4,
+    )
 
 read-requires : tie.Need-read-requires
 read-requires c κs =
@@ -88,21 +91,26 @@ read-requires c κs =
     let s3 = c .before .before .before .before .before .before .before .before .before .before .before .before .before .before .before .ask .ensures in
     let s4 = c .before .before .before .before .before .before .before .before .before .before .before .shift .ensures in
     let s5 = c .before .before .before .before .before .before .write .ensures in
-    let d = s .pre .1 in
-    (asks.head-still-in (s .args .small) (memory s) _ _ _ _ _ (s .pre .0) d _ _ _ _ s1 s2 _ _ _ s3 s4 _ _ _ _ s5,
-    asks.sizes-ok (s .args .small) (memory s) _ _ _ _ _ (s .pre .0) d,
-    omega (arith, asks.judged′ (s .args .small) (memory s) _ _ _ _ _ (s .pre .0) d .store-long,
-    asks.same-store (s .args .small) (memory s) _ _ _ _ _ (s .pre .0) d _ _ _ _ s1 s2 _ _ _ s3 s4 _ _ _ _ s5),
-    s .pre .0 .firsts-long,
-    s5 .counts-long ∙ s .pre .0 .counts-long,
-    asks.block-to-read (s .args .small) (memory s) _ _ _ _ _ (s .pre .0) d _ _ _ _ s1 s2 _ _ _ s3 s4 _ _ _ _ s5)
+    let d = s .pre .1 in (
+      asks.head-still-in (s .args .small) (memory s) _ _ _ _ _ (s .pre .0) d _ _ _ _ s1 s2 _ _ _ s3 s4 _ _ _ _ s5,
+      asks.sizes-ok (s .args .small) (memory s) _ _ _ _ _ (s .pre .0) d,
+      omega (
+        arith,
+        asks.judged′ (s .args .small) (memory s) _ _ _ _ _ (s .pre .0) d .store-long,
+        asks.same-store (s .args .small) (memory s) _ _ _ _ _ (s .pre .0) d _ _ _ _ s1 s2 _ _ _ s3 s4 _ _ _ _ s5,
+      ),
+      s .pre .0 .firsts-long,
+      s5 .counts-long ∙ s .pre .0 .counts-long,
+      asks.block-to-read (s .args .small) (memory s) _ _ _ _ _ (s .pre .0) d _ _ _ _ s1 s2 _ _ _ s3 s4 _ _ _ _ s5,
+    )
 
 next-phase-requires : tie.Need-next-phase-requires
 next-phase-requires c κs =
     let s = c .before .before .before .before .before .before .before .before .before .before .before .before .before .before .before .before .before .before .before .before .before .before .before .before in
-    let d = s .pre .1 in
-    (asks.judged′ (s .args .small) (memory s) _ _ _ _ _ (s .pre .0) d .kept .phase-ok,
-    asks.limits (s .args .small) (memory s) _ _ _ _ _ (s .pre .0) d .b-high)
+    let d = s .pre .1 in (
+      asks.judged′ (s .args .small) (memory s) _ _ _ _ _ (s .pre .0) d .kept .phase-ok,
+      asks.limits (s .args .small) (memory s) _ _ _ _ _ (s .pre .0) d .b-high,
+    )
 
 larger-requires : tie.Need-larger-requires
 larger-requires c κs = search needs
@@ -125,7 +133,7 @@ returns c =
     let d = s .pre .1 in
     let first = asks.oldest (s .args .small) (memory s) _ _ _ _ _ (s .pre .0) d in
     let head-is = head-2 (s .args .small) (memory s) _ _ _ _ _ (s .pre .0) d _ _ _ _ _ _ _ first s1 s2 s3 s4 _ _ _ _ s5 _ _
-        _ _ s6 in
+    _ _ s6 in
     record {
       state-is = state-after (s .args .small) (memory s) _ _ _ _ _ (s .pre .0) d _ _ _ _ _ _ _ first s1 s2 s3 s4 _ _ _ _ s5
           _ _ _ _ s6 _ _ _

@@ -31,9 +31,17 @@ take-counts-requires : tie.Need-take-counts-requires
 take-counts-requires c κs =
     let s = c .before .before .before .before .before .before .before .before .before .before in
     let l = long s in
-    let k = can-count s in
-    (l .tail-long, l .head-long, l .cells-long, k .tail-in, k .head-in, k .sizes-ok, k .tail-known, k .head-known,
-    k .cells-known)
+    let k = can-count s in (
+      l .tail-long,
+      l .head-long,
+      l .cells-long,
+      k .tail-in,
+      k .head-in,
+      k .sizes-ok,
+      k .tail-known,
+      k .head-known,
+      k .cells-known,
+    )
 
 advance-requires : tie.Need-advance-requires
 advance-requires c κs =

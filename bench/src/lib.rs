@@ -1,0 +1,52 @@
+//! The proved packet buffer beside natural Rust: the same lists of slots through both.
+
+pub mod library;
+pub mod natural;
+pub mod traffic;
+
+/// The sizes of the table.
+pub const TABLE_SIZES: [Sizes; 3] = [Sizes::new(4, 3, 20), Sizes::new(16, 8, 8), Sizes::new(63, 33, 4)];
+
+/// The most queues that a buffer may have.
+pub const MOST_QUEUES: usize = 64;
+
+/// The sizes of a buffer: Q queues, b bytes to a block, K blocks of slow store to a queue.
+#[derive(Clone, Copy, Debug)]
+pub struct Sizes {
+    pub queues: usize,
+    pub block: usize,
+    pub blocks: usize,
+}
+
+impl Sizes {
+    pub const fn new(queues: usize, block: usize, blocks: usize) -> Sizes {
+        Sizes { queues, block, blocks }
+    }
+
+    pub fn accepted(self) -> bool {
+        (1..=MOST_QUEUES).contains(&self.queues)
+            && (1..=128).contains(&self.block)
+            && (1..=255).contains(&self.blocks)
+            && self.queues * (self.block - 1) <= 2016
+    }
+
+    /// Cells of the lookahead.
+    pub fn lookahead(self) -> usize {
+        self.queues * (self.block - 1) + 1
+    }
+
+    /// Bytes that the tail cache holds.
+    pub fn tail_cache(self) -> usize {
+        self.queues * (self.block - 1) + self.block
+    }
+
+    /// Bytes that the head cache holds.
+    pub fn head_cache(self) -> usize {
+        2 * self.queues * (self.block - 1) + 1
+    }
+
+    /// Bytes of slow store that a slot asks for.
+    pub fn store(self) -> usize {
+        self.queues * self.blocks * self.block
+    }
+}

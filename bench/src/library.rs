@@ -1,0 +1,179 @@
+//! The boundary to the proved library: its functions, safe to call.
+//!
+//! Each runs a whole list of slots from a fresh state of the sizes, and writes an answer word for each call.
+//! The words of calls are those of `traffic::call`. An answer word: bits 0 to 7 the delivered value, 8 to 15
+//! its queue, 16 whether there is a delivery, 17 to 24 the queue written, 25 whether one was, 26 to 33 the
+//! queue read, 34 whether one was, from bit 35 on the number of the refusal or 0.
+
+use crate::Sizes;
+
+/// Whether the library is only natural Rust in its place.
+pub const MOCK: bool = cfg!(feature = "mock");
+
+/// A way to run a list of slots; false where the sizes are refused.
+pub type Run = fn(Sizes, &[u32], &mut [u64], &mut [u8]) -> bool;
+
+/// One checked slot by value for each call.
+pub fn slots(sizes: Sizes, calls: &[u32], answers: &mut [u64], store: &mut [u8]) -> bool {
+    drive(raw::drive_slots, sizes, calls, answers, store)
+}
+
+/// The unchecked step by value for each call.
+pub fn steps(sizes: Sizes, calls: &[u32], answers: &mut [u64], store: &mut [u8]) -> bool {
+    drive(raw::drive_steps, sizes, calls, answers, store)
+}
+
+/// Many slots in one call, in place.
+pub fn run(sizes: Sizes, calls: &[u32], answers: &mut [u64], store: &mut [u8]) -> bool {
+    drive(raw::drive_run, sizes, calls, answers, store)
+}
+
+/// The calls, and then so many idle slots in one call by their count, with no word for them.
+pub fn run_then_idle(
+    sizes: Sizes,
+    calls: &[u32],
+    answers: &mut [u64],
+    store: &mut [u8],
+    idle_slots: usize,
+) -> bool {
+    assert_eq!(calls.len(), answers.len());
+    // Safe for the reason given in `drive`.
+    let refused = unsafe {
+        raw::drive_idle(
+            sizes.queues,
+            sizes.block,
+            sizes.blocks,
+            calls.as_ptr(),
+            calls.len(),
+            answers.as_mut_ptr(),
+            answers.len(),
+            store.as_mut_ptr(),
+            store.len(),
+            idle_slots,
+        )
+    };
+    refused == 0
+}
+
+/// What `drive_slots`, `drive_steps` and `drive_run` have in common.
+type Drive =
+    unsafe extern "C" fn(usize, usize, usize, *const u32, usize, *mut u64, usize, *mut u8, usize) -> u8;
+
+fn drive(drive: Drive, sizes: Sizes, calls: &[u32], answers: &mut [u64], store: &mut [u8]) -> bool {
+    assert_eq!(calls.len(), answers.len());
+    // Safe: each pointer goes with the length of its own slice; the library stays within and keeps none.
+    let refused = unsafe {
+        drive(
+            sizes.queues,
+            sizes.block,
+            sizes.blocks,
+            calls.as_ptr(),
+            calls.len(),
+            answers.as_mut_ptr(),
+            answers.len(),
+            store.as_mut_ptr(),
+            store.len(),
+        )
+    };
+    refused == 0
+}
+
+#[cfg(not(feature = "mock"))]
+mod raw {
+    extern "C" {
+        pub fn drive_slots(
+            queues: usize,
+            block: usize,
+            blocks: usize,
+            calls: *const u32,
+            calls_len: usize,
+            answers: *mut u64,
+            answers_len: usize,
+            store: *mut u8,
+            store_len: usize,
+        ) -> u8;
+        pub fn drive_steps(
+            queues: usize,
+            block: usize,
+            blocks: usize,
+            calls: *const u32,
+            calls_len: usize,
+            answers: *mut u64,
+            answers_len: usize,
+            store: *mut u8,
+            store_len: usize,
+        ) -> u8;
+        pub fn drive_run(
+            queues: usize,
+            block: usize,
+            blocks: usize,
+            calls: *const u32,
+            calls_len: usize,
+            answers: *mut u64,
+            answers_len: usize,
+            store: *mut u8,
+            store_len: usize,
+        ) -> u8;
+        pub fn drive_idle(
+            queues: usize,
+            block: usize,
+            blocks: usize,
+            calls: *const u32,
+            calls_len: usize,
+            answers: *mut u64,
+            answers_len: usize,
+            store: *mut u8,
+            store_len: usize,
+            idle_slots: usize,
+        ) -> u8;
+    }
+}
+
+/// A second copy of the natural model, to stand in for the library.
+#[cfg(feature = "mock")]
+#[allow(dead_code, clippy::duplicate_mod)]
+#[path = "natural.rs"]
+mod second;
+
+#[cfg(feature = "mock")]
+mod raw {
+    use std::slice::{from_raw_parts, from_raw_parts_mut};
+
+    use super::{second, Sizes};
+
+    pub use drive_run as drive_slots;
+    pub use drive_run as drive_steps;
+
+    pub unsafe extern "C" fn drive_run(
+        queues: usize,
+        block: usize,
+        blocks: usize,
+        calls: *const u32,
+        calls_len: usize,
+        answers: *mut u64,
+        answers_len: usize,
+        store: *mut u8,
+        store_len: usize,
+    ) -> u8 {
+        drive_idle(queues, block, blocks, calls, calls_len, answers, answers_len, store, store_len, 0)
+    }
+
+    pub unsafe extern "C" fn drive_idle(
+        queues: usize,
+        block: usize,
+        blocks: usize,
+        calls: *const u32,
+        calls_len: usize,
+        answers: *mut u64,
+        answers_len: usize,
+        store: *mut u8,
+        store_len: usize,
+        idle_slots: usize,
+    ) -> u8 {
+        let calls = from_raw_parts(calls, calls_len);
+        let answers = from_raw_parts_mut(answers, answers_len);
+        let store = from_raw_parts_mut(store, store_len);
+        let sizes = Sizes { queues, block, blocks };
+        (!second::run_then_idle(sizes, calls, answers, store, idle_slots)) as u8
+    }
+}

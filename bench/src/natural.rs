@@ -1,0 +1,260 @@
+//! The slot as one would write it in Rust, with nothing proved: a `VecDeque` for each queue's tail and head,
+//! another for the lookahead, and counts kept up to date.
+
+use std::collections::VecDeque;
+use std::hint::black_box;
+
+use crate::traffic::halves;
+use crate::{Sizes, MOST_QUEUES};
+
+/// A place of the lookahead: what comes out when it is the oldest.
+#[derive(Clone, Copy)]
+enum Cell {
+    Empty,
+    /// The byte travels in its cell.
+    Held(u8, u8),
+    /// The oldest head byte of this queue.
+    Owed(u8),
+}
+
+#[derive(Clone, Default)]
+struct Queue {
+    tail: VecDeque<u8>,
+    head: VecDeque<u8>,
+    /// Owed cells of this queue in the lookahead.
+    owed: usize,
+    /// The first block of its ring in the slow store, and how many are in use.
+    first: usize,
+    blocks: usize,
+}
+
+pub struct Buffer {
+    sizes: Sizes,
+    phase: usize,
+    cells: VecDeque<Cell>,
+    queues: Vec<Queue>,
+    /// Bytes in the tail and in the head cache, over all queues.
+    tail_bytes: usize,
+    head_bytes: usize,
+}
+
+/// What a slot says: 0 or the number of its refusal, the queue and value delivered, the queues moved.
+#[derive(Default)]
+pub struct Answer {
+    pub number: u8,
+    pub delivery: Option<(u8, u8)>,
+    pub written: Option<u8>,
+    pub read: Option<u8>,
+}
+
+impl Buffer {
+    /// A fresh buffer, or none where the sizes are refused.
+    pub fn new(sizes: Sizes) -> Option<Buffer> {
+        sizes.accepted().then(|| Buffer {
+            sizes,
+            phase: 0,
+            cells: vec![Cell::Empty; sizes.lookahead()].into(),
+            queues: vec![Queue::default(); sizes.queues],
+            tail_bytes: 0,
+            head_bytes: 0,
+        })
+    }
+
+    /// One slot, with an arrival (queue and value) and a request (queue). A refused one changes nothing.
+    pub fn slot(&mut self, arrival: Option<(u8, u8)>, request: Option<u8>, store: &mut [u8]) -> Answer {
+        self.try_slot(arrival, request, store).unwrap_or_else(|number| Answer { number, ..Answer::default() })
+    }
+
+    fn try_slot(
+        &mut self,
+        arrival: Option<(u8, u8)>,
+        request: Option<u8>,
+        store: &mut [u8],
+    ) -> Result<Answer, u8> {
+        let Sizes { block, blocks, .. } = self.sizes;
+
+        // Everything is judged before anything moves.
+        if store.len() < self.sizes.store() {
+            return Err(2);
+        }
+        if let Some((queue, _)) = arrival {
+            let queue = self.queues.get(queue as usize).ok_or(4)?;
+            if queue.tail.len() + block * queue.blocks == blocks * block {
+                return Err(5);
+            }
+        }
+        let mut request_is_owed = false;
+        if let Some(asked) = request {
+            let queue = self.queues.get(asked as usize).ok_or(6)?;
+            request_is_owed = queue.head.len() + block * queue.blocks > queue.owed;
+            let arrives = arrival.is_some_and(|(queue, _)| queue == asked);
+            if !request_is_owed && queue.tail.is_empty() && !arrives {
+                return Err(7);
+            }
+        }
+        let mut head_bytes = self.head_bytes;
+        if let Some(&Cell::Owed(queue)) = self.cells.front() {
+            if self.queues[queue as usize].head.is_empty() {
+                return Err(8);
+            }
+            head_bytes -= 1;
+        }
+        if arrival.is_some() && self.tail_bytes >= self.sizes.tail_cache() {
+            return Err(9);
+        }
+        let moves = self.phase + 1 == block;
+        let mut read = None;
+        if moves {
+            read = self.uncovered(request.filter(|_| request_is_owed));
+            if read.is_some() && head_bytes + block > self.sizes.head_cache() {
+                return Err(10);
+            }
+        }
+
+        // 1. The oldest cell leaves.
+        let delivery = match self.cells.pop_front() {
+            None | Some(Cell::Empty) => None,
+            Some(Cell::Held(queue, value)) => Some((queue, value)),
+            Some(Cell::Owed(queue)) => {
+                let from = &mut self.queues[queue as usize];
+                from.owed -= 1;
+                self.head_bytes -= 1;
+                from.head.pop_front().map(|value| (queue, value))
+            }
+        };
+        // 2. The arriving byte joins the tail.
+        if let Some((queue, value)) = arrival {
+            self.queues[queue as usize].tail.push_back(value);
+            self.tail_bytes += 1;
+        }
+        // 3. The request takes the youngest cell.
+        let youngest = match request {
+            None => Cell::Empty,
+            Some(queue) if request_is_owed => {
+                self.queues[queue as usize].owed += 1;
+                Cell::Owed(queue)
+            }
+            Some(queue) => {
+                self.tail_bytes -= 1;
+                let value = self.queues[queue as usize].tail.pop_front();
+                Cell::Held(queue, value.expect("refusal 7 was judged"))
+            }
+        };
+        self.cells.push_back(youngest);
+        // 4. In the last phase, a write and then a read.  5. The phase rises by one.
+        let mut written = None;
+        if moves {
+            written = self.fullest();
+            if let Some(queue) = written {
+                self.write(queue, store);
+            }
+            if let Some(queue) = read {
+                self.read(queue, store);
+            }
+            self.phase = 0;
+        } else {
+            self.phase += 1;
+        }
+        Ok(Answer { number: 0, delivery, written, read })
+    }
+
+    /// The queue of the first Owed cell that its queue's head bytes do not cover. `joining` is the queue of
+    /// an Owed cell about to join. The cell about to leave is scanned with the rest: it is covered, and uses
+    /// up the head byte that it delivers.
+    fn uncovered(&self, joining: Option<u8>) -> Option<u8> {
+        // Where no queue owes more than its head holds, there is nothing to look for.
+        let critical = |(number, queue): (usize, &Queue)| {
+            queue.owed + usize::from(joining == Some(number as u8)) > queue.head.len()
+        };
+        if !self.queues.iter().enumerate().any(critical) {
+            return None;
+        }
+        let mut left = [0; MOST_QUEUES];
+        for (left, queue) in left.iter_mut().zip(&self.queues) {
+            *left = queue.head.len();
+        }
+        let joining = joining.map(Cell::Owed);
+        self.cells.iter().chain(&joining).find_map(|cell| match *cell {
+            Cell::Owed(queue) if left[queue as usize] == 0 => Some(queue),
+            Cell::Owed(queue) => {
+                left[queue as usize] -= 1;
+                None
+            }
+            _ => None,
+        })
+    }
+
+    /// The queue with most tail bytes, a block of them or more, and the lowest number on a tie.
+    fn fullest(&self) -> Option<u8> {
+        let mut most = self.sizes.block - 1;
+        let mut fullest = None;
+        for (number, queue) in self.queues.iter().enumerate() {
+            if queue.tail.len() > most {
+                most = queue.tail.len();
+                fullest = Some(number as u8);
+            }
+        }
+        fullest
+    }
+
+    /// The oldest tail bytes of a queue go to the next block of its ring.
+    fn write(&mut self, number: u8, store: &mut [u8]) {
+        let Sizes { block, blocks, .. } = self.sizes;
+        let queue = &mut self.queues[number as usize];
+        let at = (number as usize * blocks + (queue.first + queue.blocks) % blocks) * block;
+        for (place, value) in store[at..at + block].iter_mut().zip(queue.tail.drain(..block)) {
+            *place = value;
+        }
+        queue.blocks += 1;
+        self.tail_bytes -= block;
+    }
+
+    /// The first block of a queue's ring goes to the head.
+    fn read(&mut self, number: u8, store: &[u8]) {
+        let Sizes { block, blocks, .. } = self.sizes;
+        let queue = &mut self.queues[number as usize];
+        let at = (number as usize * blocks + queue.first) * block;
+        queue.head.extend(&store[at..at + block]);
+        queue.first = (queue.first + 1) % blocks;
+        queue.blocks -= 1;
+        self.head_bytes += block;
+    }
+}
+
+impl Answer {
+    /// The answer as one word, laid out as `library` says.
+    pub fn word(&self) -> u64 {
+        let (queue, value) = self.delivery.unwrap_or((0, 0));
+        let queue_and_mark = |queue: Option<u8>| queue.map_or(0, |queue| queue as u64 | 1 << 8);
+        value as u64
+            | (queue as u64) << 8
+            | (self.delivery.is_some() as u64) << 16
+            | queue_and_mark(self.written) << 17
+            | queue_and_mark(self.read) << 26
+            | (self.number as u64) << 35
+    }
+}
+
+/// A list of slots from a fresh state, an answer word for each; false where the sizes are refused.
+pub fn run(sizes: Sizes, calls: &[u32], answers: &mut [u64], store: &mut [u8]) -> bool {
+    run_then_idle(sizes, calls, answers, store, 0)
+}
+
+/// The same, and then so many idle slots, one by one and with no word for them.
+pub fn run_then_idle(
+    sizes: Sizes,
+    calls: &[u32],
+    answers: &mut [u64],
+    store: &mut [u8],
+    idle_slots: usize,
+) -> bool {
+    let Some(mut buffer) = Buffer::new(sizes) else { return false };
+    for (&call, answer) in calls.iter().zip(answers) {
+        let (arrival, request) = halves(call);
+        *answer = buffer.slot(arrival, request, store).word();
+    }
+    for _ in 0..idle_slots {
+        black_box(buffer.slot(None, None, store));
+    }
+    true
+}

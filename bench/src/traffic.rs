@@ -1,0 +1,188 @@
+//! Lists of calls, one word for each slot, the same list for the same seed.
+
+use crate::natural::Buffer;
+use crate::Sizes;
+
+/// A call as one word: bits 0 to 7 the arriving value, 8 to 15 its queue, 16 whether there is an arrival,
+/// 17 to 24 the queue asked, 25 whether there is a request.
+pub fn call(arrival: Option<(u8, u8)>, request: Option<u8>) -> u32 {
+    let arrival = arrival.map_or(0, |(queue, value)| value as u32 | (queue as u32) << 8 | 1 << 16);
+    let request = request.map_or(0, |queue| (queue as u32) << 17 | 1 << 25);
+    arrival | request
+}
+
+/// The arrival (queue and value) and the request (queue) of a call.
+pub fn halves(call: u32) -> (Option<(u8, u8)>, Option<u8>) {
+    let arrival = (call >> 16 & 1 == 1).then_some(((call >> 8) as u8, call as u8));
+    let request = (call >> 25 & 1 == 1).then_some((call >> 17) as u8);
+    (arrival, request)
+}
+
+#[derive(Clone, Copy)]
+pub enum Traffic {
+    /// An arrival in every slot where some queue has room, a request where one has a byte left to ask for.
+    Full,
+    /// Each half with probability 1/2, for any queue: full and empty queues refuse some.
+    Random,
+    /// Nothing, after a short prelude.
+    Idle,
+}
+
+impl Traffic {
+    pub const ALL: [Traffic; 3] = [Traffic::Full, Traffic::Random, Traffic::Idle];
+
+    pub fn name(self) -> &'static str {
+        match self {
+            Traffic::Full => "full",
+            Traffic::Random => "random",
+            Traffic::Idle => "idle",
+        }
+    }
+
+    pub fn calls(self, sizes: Sizes, slots: usize, seed: u64) -> Vec<u32> {
+        let random = &mut Random(seed);
+        match self {
+            Traffic::Full => full(sizes, slots, random),
+            Traffic::Random => any(sizes, slots, random),
+            Traffic::Idle => {
+                let mut calls = prelude(sizes);
+                calls.resize(slots, call(None, None));
+                calls
+            }
+        }
+    }
+}
+
+/// Arrivals alone until a quarter of the store is full, then both halves in every slot.
+fn full(sizes: Sizes, slots: usize, random: &mut Random) -> Vec<u32> {
+    let Sizes { queues, block, blocks } = sizes;
+    let warm_up = sizes.store() / 4;
+    // Bytes of each queue that nobody has asked for, kept a block below the ring's size.
+    let mut unasked = vec![0; queues];
+    let most = (blocks - 1) * block;
+    let mut calls = Vec::with_capacity(slots);
+    for slot in 0..slots {
+        let arriving = search(queues, random.below(queues), |queue| unasked[queue] < most);
+        if let Some(queue) = arriving {
+            unasked[queue] += 1;
+        }
+        let mut asked = None;
+        if slot >= warm_up {
+            asked = search(queues, random.below(queues), |queue| unasked[queue] > 0);
+        }
+        if let Some(queue) = asked {
+            unasked[queue] -= 1;
+        }
+        let arrival = arriving.map(|queue| (queue as u8, random.byte()));
+        calls.push(call(arrival, asked.map(|queue| queue as u8)));
+    }
+    calls
+}
+
+/// Each queue is first filled to some random height, so that full and empty ones are met from the start.
+fn any(sizes: Sizes, slots: usize, random: &mut Random) -> Vec<u32> {
+    let Sizes { queues, block, blocks } = sizes;
+    let mut calls = Vec::with_capacity(slots);
+    for queue in 0..queues {
+        for _ in 0..random.below(blocks * block + 1) {
+            calls.push(call(Some((queue as u8, random.byte())), None));
+        }
+    }
+    while calls.len() < slots {
+        let arrival = random.percent(50).then(|| (random.below(queues) as u8, random.byte()));
+        let request = random.percent(50).then(|| random.below(queues) as u8);
+        calls.push(call(arrival, request));
+    }
+    calls.truncate(slots);
+    calls
+}
+
+/// A short list that leaves work behind: some blocks of queue 0 wait in the store, most of two are asked for,
+/// and two tails grow until one of them is due to be written in the slot that follows.
+pub fn prelude(sizes: Sizes) -> Vec<u32> {
+    let (block, last) = (sizes.block, sizes.queues as u8 - 1);
+    let fill = (0..3 * block).map(|value| call(Some((0, value as u8)), None));
+    let ask = (1..2 * block).map(|value| call(Some(([0, last][value % 2], value as u8)), Some(0)));
+    fill.chain(ask).collect()
+}
+
+/// Calls for tests: stretches of changing habits, from filling a few queues to emptying them. Most calls make
+/// sense, some are for any queue, and a few for a queue that does not exist.
+pub fn rough(sizes: Sizes, slots: usize, seed: u64) -> Vec<u32> {
+    let random = &mut Random(seed);
+    let Sizes { queues, block, blocks } = sizes;
+    let mut buffer = Buffer::new(sizes).expect("these sizes are accepted");
+    let mut store = vec![0; sizes.store()];
+    let mut unasked = vec![0; queues];
+    let mut calls = Vec::with_capacity(slots);
+    while calls.len() < slots {
+        // The chances of an arrival and of a request in percent, and the queues to begin a search at.
+        let habits = [(100, 0), (90, 30), (100, 100), (50, 50), (30, 90), (0, 100), (0, 0)];
+        let (arrivals, requests) = random.pick(&habits);
+        let first = random.below(queues);
+        let span = random.pick(&[1, 2, queues]);
+        for _ in 0..1 + random.below(sizes.lookahead() + 20) {
+            let mut queue = |makes_sense: &dyn Fn(usize) -> bool| match random.below(100) {
+                0 => Some(random.pick(&[queues, queues + 1, 255])),
+                1..=5 => Some(random.below(queues)),
+                _ => search(queues, (first + random.below(span)) % queues, makes_sense),
+            };
+            let arriving = queue(&|queue| unasked[queue] < blocks * block);
+            let asked = queue(&|queue| unasked[queue] > 0);
+            let arriving = arriving.filter(|_| random.percent(arrivals));
+            let asked = asked.filter(|_| random.percent(requests));
+            let arrival = arriving.map(|queue| (queue as u8, random.byte()));
+            let request = asked.map(|queue| queue as u8);
+            if buffer.slot(arrival, request, &mut store).number == 0 {
+                if let Some(queue) = arriving {
+                    unasked[queue] += 1;
+                }
+                if let Some(queue) = asked {
+                    unasked[queue] -= 1;
+                }
+            }
+            calls.push(call(arrival, request));
+        }
+    }
+    calls.truncate(slots);
+    calls
+}
+
+/// The first queue from `start` on, and round, that will do.
+fn search(queues: usize, start: usize, will_do: impl Fn(usize) -> bool) -> Option<usize> {
+    (start..queues).chain(0..start).find(|&queue| will_do(queue))
+}
+
+/// A small generator (splitmix64).
+pub struct Random(pub u64);
+
+impl Random {
+    fn next(&mut self) -> u64 {
+        self.0 = self.0.wrapping_add(0x9e37_79b9_7f4a_7c15);
+        let mut mixed = self.0;
+        mixed = (mixed ^ mixed >> 30).wrapping_mul(0xbf58_476d_1ce4_e5b9);
+        mixed = (mixed ^ mixed >> 27).wrapping_mul(0x94d0_49bb_1331_11eb);
+        mixed ^ mixed >> 31
+    }
+
+    /// A number below `limit`.
+    pub fn below(&mut self, limit: usize) -> usize {
+        (self.next() % limit as u64) as usize
+    }
+
+    pub fn byte(&mut self) -> u8 {
+        self.next() as u8
+    }
+
+    pub fn percent(&mut self, chance: usize) -> bool {
+        self.below(100) < chance
+    }
+
+    pub fn pick<T: Copy>(&mut self, choices: &[T]) -> T {
+        choices[self.below(choices.len())]
+    }
+
+    pub fn bytes(&mut self, length: usize) -> Vec<u8> {
+        (0..length).map(|_| self.byte()).collect()
+    }
+}

@@ -1,0 +1,2 @@
+-- What a run from a fresh state promises to a caller outside.
+pub mod Says

@@ -162,13 +162,6 @@ impl Buffer {
     /// an Owed cell about to join. The cell about to leave is scanned with the rest: it is covered, and uses
     /// up the head byte that it delivers.
     fn uncovered(&self, joining: Option<u8>) -> Option<u8> {
-        // Where no queue owes more than its head holds, there is nothing to look for.
-        let critical = |(number, queue): (usize, &Queue)| {
-            queue.owed + usize::from(joining == Some(number as u8)) > queue.head.len()
-        };
-        if !self.queues.iter().enumerate().any(critical) {
-            return None;
-        }
         let mut left = [0; MOST_QUEUES];
         for (left, queue) in left.iter_mut().zip(&self.queues) {
             *left = queue.head.len();

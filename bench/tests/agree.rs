@@ -51,8 +51,13 @@ fn outcome(run: Run, sizes: Sizes, calls: &[u32], store: &[u8]) -> (Vec<u64>, Ve
 
 /// Runs the list in every way, and gives the answers that all of them give.
 fn agree(sizes: Sizes, calls: &[u32], store: &[u8]) -> Vec<u64> {
+    agree_in(&WAYS, sizes, calls, store)
+}
+
+/// The same in some of the ways.
+fn agree_in(ways: &[(&str, Run)], sizes: Sizes, calls: &[u32], store: &[u8]) -> Vec<u64> {
     let natural = outcome(natural::run, sizes, calls, store);
-    for (way, run) in WAYS {
+    for &(way, run) in ways {
         let proved = outcome(run, sizes, calls, store);
         for (slot, (natural, proved)) in natural.0.iter().zip(&proved.0).enumerate() {
             assert_eq!(natural, proved, "{sizes:?}, slot {slot}, natural Rust against {way}");
@@ -104,10 +109,17 @@ fn no_list_and_a_longer_store() {
 
 #[test]
 fn a_store_that_is_too_short() {
+    // The unchecked step is not for such a store: its list is refused whole.
+    let checked: Vec<(&str, Run)> = WAYS.into_iter().filter(|&(way, _)| way != "steps").collect();
     for sizes in LIMITS {
         for length in [0, sizes.store() - 1] {
-            let answers = agree(sizes, &random_calls(sizes, 3)[..100], &random_store(length));
+            let calls = &random_calls(sizes, 3)[..100];
+            let store = random_store(length);
+            let answers = agree_in(&checked, sizes, calls, &store);
             assert!(answers.iter().all(|&answer| answer == 2 << 35));
+            let mut lent = store.clone();
+            assert!(!library::steps(sizes, calls, &mut [0; 100], &mut lent), "steps takes a short store");
+            assert!(store == lent, "steps refuses a short store and changes it");
         }
     }
 }

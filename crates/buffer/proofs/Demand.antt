@@ -1,6 +1,6 @@
 -- Demand 3 over calls: a call that meets the slot's contract keeps the slot's promise, so that a chain of calls is a
 -- chain of promises, of which the model has shown demand 3.
-use mathlib.Core.Path.{_≡_, refl, ap, sym, _∙_, subst}
+use mathlib.Core.Path.{_≡_, refl, sym, subst}
 use mathlib.Core.Bool.{Bool, true, false, not}
 use mathlib.Core.List.{List}
 use Prim.Native.Nat.{ℕ}
@@ -11,11 +11,9 @@ use Rattle.model.specs.State.{State, fresh}
 use Rattle.model.specs.Slot.{Call}
 use Rattle.model.specs.Lists.{Chain, no-call, next-call, stepsOf}
 use Rattle.model.specs.Demand.{ListMeets}
-use Rattle.model.proofs.Words.{by-test}
 use Rattle.model.proofs.Demand.{demand-3}
 use Rattle.buffer.specs.declared.State as code
-use Rattle.buffer.specs.declared.Made.{Made}
-use Rattle.buffer.specs.Says.{stateOf, MakeSays}
+use Rattle.buffer.specs.Says.{stateOf}
 use Rattle.buffer.specs.Demand.{Given, Calls, answersOf, CallsMeet}
 use Rattle.buffer.specs.Demand as calls
 

@@ -1,15 +1,14 @@
 -- A record with 0 at every place of its arrays holds a fresh state: 0 is an empty cell, and a fill of 0 holds no byte.
 use mathlib.Core.Path.{_≡_, refl, ap, sym, _∙_, fun-ext}
 use mathlib.Core.Bool.{Bool, true, false, not}
-use mathlib.Core.List.{List, [], _∷_}
-use Prim.Native.Nat.{ℕ, zero, suc, _<_, _≤_}
+use mathlib.Core.List.{_∷_}
+use Prim.Native.Nat.{ℕ, zero, suc, _≤_}
 use native.Mathlib.Omega.{arith}
-use lib.ListN.{length, getD, replicate}
+use lib.ListN.{getD, replicate}
 use Rattle.model.specs.Words.{choose, when, tabulate}
 use Rattle.model.specs.Sizes.{sizes, paperLimits, accepts, paper, lookahead}
-use Rattle.model.specs.State.{empty, Ring, ring, fresh}
+use Rattle.model.specs.State.{empty, ring, fresh}
 use Rattle.model.proofs.Words.{true-not-false}
-use Rattle.caches.specs.Views.{bytesIn, countsIn}
 use Rattle.caches.proofs.Entries.{bytes-none}
 use Rattle.caches.proofs.Counts.{counts-zero}
 use Rattle.lookahead.specs.Views.{cellFor, cellOf, cellsIn}

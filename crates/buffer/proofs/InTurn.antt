@@ -32,7 +32,8 @@ opened-closed x arrival =
     same-state (x .sizes) refl refl refl (without-last (drop 1 (x .cells)) empty) refl refl refl
 
 -- The steps, each on what the one before it left, with the queues that step 4 finds there.
-pub record StepByStep (x : State) (store : List ℕ) (call : Call) (x₁ x₂ x₃ x₄ x₅ x₆ : State) (store₄ : List ℕ) : Type 0 where
+pub record StepByStep (x : State) (store : List ℕ) (call : Call) (x₁ x₂ x₃ x₄ x₅ x₆ : State) (store₄ : List ℕ) : Type
+    0 where
   pub delivered : x₁ ≡ opened x
   pub arrived : x₂ ≡ afterArrival (call .arrival) x₁
   pub asked-is : x₃ ≡ afterRequest (call .request) (closed x₂)

@@ -1,6 +1,6 @@
 -- Idle slots by the count: where the rules are kept and the store is long enough they are passed in place, and else every
 -- one of them is refused and leaves all as it was.
-use mathlib.Core.Path.{_≡_, refl, ap, sym, _∙_, subst}
+use mathlib.Core.Path.{_≡_, refl, ap, sym, _∙_}
 use mathlib.Core.Bool.{true, false}
 use mathlib.Core.List.{List}
 use Prim.Native.Nat.{ℕ, zero, suc, _<_}
@@ -47,7 +47,8 @@ module _ (x : State) (store : List ℕ) (k : ℕ) (refused : slot paper x store 
   store-stays zero = refl
   store-stays (suc n) = ap (λ (a : Answer). lastStore paper (a .state) (a .store) (idles n)) refused ∙ store-stays n
 
-pub idled-three : (s : code.State) (store : List ℕ) (n : ℕ) → keeps paper (stateOf s) ≡ false → IdledSays s store n s store
+pub idled-three : (s : code.State) (store : List ℕ) (n : ℕ) → keeps paper (stateOf s) ≡ false → IdledSays s store n s
+    store
 idled-three s store n e = record {
   state-is = same-but-marks (stays (stateOf s) store 2 (three (stateOf s) store idle e) n);
   store-is = sym (store-stays (stateOf s) store 2 (three (stateOf s) store idle e) n);

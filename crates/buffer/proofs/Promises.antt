@@ -1,18 +1,17 @@
 -- A slot by value keeps the slot's promise: what it answers is the model's own slot, and on a refusal the very record
 -- comes back.
 use mathlib.Core.Path.{_≡_, refl, ap, sym, _∙_, subst}
-use mathlib.Core.Bool.{Bool, true, false, not}
-use mathlib.Core.List.{List, [], _∷_}
-use mathlib.Core.Option.{Option, none}
-use Prim.Native.Nat.{ℕ, zero, suc, _*_, _<_, _≤_}
+use mathlib.Core.Bool.{true, false}
+use mathlib.Core.List.{List}
+use mathlib.Core.Option.{none}
+use Prim.Native.Nat.{ℕ, _*_, _<_, _≤_}
 use native.Mathlib.Nat.{mul-le-mul}
 use native.Mathlib.Omega.{arith}
 use lib.ListN.{length}
 use borrow.Author.Tests.{lt-ltb}
-use Rattle.model.specs.Words.{when, firstRefusal}
 use Rattle.model.specs.Sizes.{paper, storeBytes}
 use Rattle.model.specs.State.{State, keeps, SameButMarks}
-use Rattle.model.specs.Slot.{Call, Answer, accept, refuse, answer, slot, refusal}
+use Rattle.model.specs.Slot.{Call, Answer, refuse, slot, refusal}
 use Rattle.model.specs.Lists.{Promised}
 use Rattle.model.proofs.Words.{by-zero}
 use Rattle.model.proofs.Rules.{Keeps, keeps-facts}
@@ -133,7 +132,8 @@ need-small-in small m e = (row, mul-le-mul row (l .b-high))
     row = mul-le-mul (l .q-high) (l .k-high)
 
 pub need-small : (s : code.State) → keeps paper (stateOf s) ≡ true
-    → (s .small .queues * s .small .blocks ≤ 64 * 255) × (s .small .queues * s .small .blocks * s .small .block ≤ 64 * 255 * 128)
+    → (s .small .queues * s .small .blocks ≤ 64 * 255) × (s .small .queues * s .small .blocks * s .small .block ≤ 64
+    * 255 * 128)
 need-small s e = need-small-in (s .small) (arraysOf s) e
 
 -- The slot keeps its own promise on any state whatever: one that is accepted keeps the rules.
@@ -175,5 +175,6 @@ slot-refused s store call a r store′ e f es er en ed ew eg = slot-says s store
     same : answerOf r store′ ≡ slot paper (stateOf s) store call
     same =
         answer-is (slot paper (stateOf s) store call) (answerOf r store′) (en ∙ ap (λ (b : Answer). b .number) e)
-        (ed ∙ sym (u .no-delivery)) (ew ∙ sym (u .no-write)) (eg ∙ sym (u .no-read)) (ap stateOf er ∙ sym (u .same-state))
+        (ed ∙ sym (u .no-delivery)) (ew ∙ sym (u .no-write)) (eg ∙ sym (u .no-read)) (ap stateOf er ∙ sym (u
+        .same-state))
         (es ∙ ap (λ (b : Answer). b .store) e)

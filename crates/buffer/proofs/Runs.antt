@@ -10,9 +10,9 @@ use native.Mathlib.Omega.{arith}
 use lib.ListN.{length, take, drop, replicate, length-map}
 use lib.Seq.{length-take-le}
 use Rattle.model.specs.Sizes.{paper}
-use Rattle.model.specs.State.{State, keeps, SameButMarks, MarksInRange}
+use Rattle.model.specs.State.{State, keeps, MarksInRange}
 use Rattle.model.specs.Slot.{Call, Answer, refuse, slot}
-use Rattle.model.specs.Lists.{Step, stepOf, run, lastState, lastStore}
+use Rattle.model.specs.Lists.{stepOf, run, lastState, lastStore}
 use Rattle.model.proofs.Rules.{Keeps, keeps-facts}
 use Rattle.words.specs.Words.{callOf, answerWord}
 use Rattle.runs.specs.Says.{wordOf, RunSays}

@@ -3,16 +3,16 @@
 use mathlib.Core.Path.{_≡_, refl, ap, sym, _∙_, subst}
 use mathlib.Core.Bool.{Bool, false}
 use mathlib.Core.List.{List, [], _∷_, _++_}
-use mathlib.Core.Option.{Option, some, none}
-use Prim.Native.Nat.{ℕ, zero, suc, _+_, _-_, _<_, _≤_, max}
+use mathlib.Core.Option.{Option, some}
+use Prim.Native.Nat.{ℕ, _+_, _-_, _<_, _≤_, max}
 use native.Mathlib.Omega.{arith}
 use lib.ListN.{length, take, drop, set, getD, length-append}
 use borrow.Author.Tests.{eqb-false, ltb-false}
 use Rattle.model.specs.Words.{choose}
 use Rattle.model.specs.Sizes.{span, lookahead, headSize}
 use Rattle.model.specs.State.{Byte, Cell, empty, owed, Ring, ring, State, countOf, headBytes, ringOf}
-use Rattle.model.specs.Slot.{oldestCell, headWithout, deliveryOf, delivery, arriving, isOwed, youngestCell, tailLeft}
-use Rattle.model.specs.Slot.{moves, tailWritten, ringsWritten, storeWritten, headRead, ringsRead, afterArrival}
+use Rattle.model.specs.Slot.{oldestCell, headWithout, deliveryOf, delivery, arriving, isOwed}
+use Rattle.model.specs.Slot.{moves, storeWritten, headRead, afterArrival}
 use Rattle.model.specs.Slot.{afterRequest, afterWrite, afterRead, afterPhase, leavesUncovered, headFull}
 use Rattle.caches.specs.Views.{bytesIn, countsIn}
 use Rattle.caches.proofs.Entries.{bytes-length}
@@ -27,7 +27,7 @@ use Rattle.parts.proofs.Rings.{ring-at}
 use Rattle.parts.proofs.States.{state-of, same-state}
 use Rattle.steps.specs.declared.Gave.{Gave}
 use Rattle.steps.specs.declared.Asked.{Asked}
-use Rattle.steps.specs.Says.{DeliverSays, ArriveSays, cellAsked, tailAsked, AskSays, moving, WriteSays, ReadSays}
+use Rattle.steps.specs.Says.{DeliverSays, ArriveSays, AskSays, WriteSays, ReadSays}
 use Rattle.steps.proofs.Moving.{oldest-cell, moving-tail, moving-rings, moving-store, moving-head, moving-read}
 use Rattle.steps.proofs.Moving.{asked-cell, asked-tail}
 use Rattle.buffer.specs.declared.State as code

@@ -1,5 +1,5 @@
 -- A state that was made keeps the rules, and needs Q × K × b bytes of store, a small number.
-use mathlib.Core.Path.{_≡_, refl, ap, sym, _∙_}
+use mathlib.Core.Path.{_≡_, refl, ap, _∙_}
 use mathlib.Core.Bool.{Bool, true, false, not}
 use mathlib.Core.List.{List, _++_, map}
 use Prim.Native.Nat.{ℕ, _*_, _≤_}
@@ -41,7 +41,8 @@ module _ (q b k : ℕ) (m : Made) (says : MakeSays q b k m) (made : m .number �
       (between-facts 1 k 255 (all-true-at (sizeRules paperLimits (sizes q b k)) 2 sizes-ok) .1)
 
   pub need-small : q * k * b ≤ 64 * 255 * 128
-  need-small = mul-le-mul row-small (between-facts 1 b 128 (all-true-at (sizeRules paperLimits (sizes q b k)) 1 sizes-ok) .1)
+  need-small = mul-le-mul row-small (between-facts 1 b 128 (all-true-at (sizeRules paperLimits (sizes q b k)) 1
+      sizes-ok) .1)
 
 -- A making that does not answer 0 was of sizes that are not accepted.
 pub sizes-refused : (q b k : ℕ) (m : Made) → MakeSays q b k m → (m .number ≡ 0 → ⊥)
@@ -61,7 +62,8 @@ drove q b k m calls answers answers′ store store′ r says made ran = record {
   ran = λ e. (
     refl,
     ran .answers-are
-        ∙ ap (λ (x : State). map wordOf (run paper x store (callsRun calls answers)) ++ drop (runLength calls answers) answers)
+        ∙ ap (λ (x : State). map wordOf (run paper x store (callsRun calls answers)) ++ drop (runLength calls
+        answers) answers)
         fresh-is,
     ran .store-is ∙ ap (λ (x : State). lastStore paper x store (callsRun calls answers)) fresh-is,
   );

@@ -1,6 +1,6 @@
 -- A run from a fresh state: the list of demand 3, an answer for each of its slots, and its store; or 1, and all as it was.
 use mathlib.Core.Path.{_≡_}
-use mathlib.Core.Bool.{Bool, true, false}
+use mathlib.Core.Bool.{true, false}
 use mathlib.Core.List.{List, _++_, map}
 use Prim.Native.Nat.{ℕ}
 use lib.ListN.{drop}
@@ -15,5 +15,6 @@ pub record DroveSays (q b k : ℕ) (calls answers answers′ store store′ : Li
   pub ran : accepts paperLimits (sizes q b k) ≡ true
       → (r ≡ 0)
       × (answers′
-      ≡ map wordOf (listOf paper (sizes q b k) store (callsRun calls answers)) ++ drop (runLength calls answers) answers)
+      ≡ map wordOf (listOf paper (sizes q b k) store (callsRun calls answers)) ++ drop (runLength calls answers)
+      answers)
       × (store′ ≡ lastStore paper (fresh paper (sizes q b k)) store (callsRun calls answers))

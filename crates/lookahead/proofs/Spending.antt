@@ -6,7 +6,7 @@ use native.Mathlib.Omega.{arith}
 use lib.Dec.{eqb}
 use lib.ListN.{length, set, getD, length-set}
 use borrow.Author.Tests.{eqb-true}
-use Rattle.model.specs.State.{owed, owes}
+use Rattle.model.specs.State.{owed}
 use Rattle.model.proofs.Words.{by-test}
 use Rattle.caches.specs.Views.{countsIn}
 use Rattle.caches.specs.Says.{CountsAre}

@@ -1,7 +1,6 @@
 -- What the enums of a call and of an answer say in the model's terms.
 use mathlib.Core.Option.{Option, some, none}
 use Prim.Native.Nat.{ℕ}
-use Rattle.model.specs.Sizes.{Sizes, sizes}
 use Rattle.model.specs.State.{Byte, byte}
 use Rattle.model.specs.Slot.{Call}
 use Rattle.parts.specs.declared.Arrival.{Arrival}

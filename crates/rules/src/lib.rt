@@ -1,13 +1,10 @@
 // Whether a state keeps the rules (refusal 3): the paper's section "The state", judged on any numbers and any arrays.
 ghost use mathlib.Core.Path.{_≡_};
 ghost use mathlib.Core.Bool.{true};
-ghost use Prim.Native.Nat.{_≤_};
 ghost use lib.ListN.{length};
-ghost use Rattle.model.specs.Words.{allOf};
 ghost use Rattle.model.specs.Sizes.{paper, paperLimits, accepts, lookahead};
-ghost use Rattle.model.specs.State.{byteBelow, cellBelow, keeps};
-ghost use Rattle.caches.specs.Views.{bytesIn, countsIn};
-ghost use Rattle.lookahead.specs.Views.{cellsIn};
+ghost use Rattle.model.specs.State.{keeps};
+ghost use Rattle.caches.specs.Views.{countsIn};
 ghost use Rattle.parts.specs.Views.{sizesIn, arrays, stateIn};
 ghost use Rattle.rules.specs.Says.{fillsFit, ringKeeps, queuesKeep};
 use parts::Small;

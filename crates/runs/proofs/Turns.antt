@@ -1,7 +1,7 @@
 -- A run before call i has run the first i calls as the model's list: their answers stand, what lies behind them is as it
 -- was, and state and store are as those calls leave them. One call more is one slot more.
 use mathlib.Core.Path.{_≡_, refl, ap, sym, _∙_, subst}
-use mathlib.Core.List.{List, [], _∷_, _++_, map, map-append, append-assoc}
+use mathlib.Core.List.{List, [], _∷_, _++_, map, map-append}
 use mathlib.Core.Option.{Option}
 use Prim.Native.Nat.{ℕ, suc, _+_, _<_, _≤_}
 use native.Mathlib.Omega.{arith}
@@ -11,7 +11,7 @@ use lib.Seq.{take-length, take-suc, length-take-le, drop-drop}
 use Rattle.model.specs.Sizes.{paper}
 use Rattle.model.specs.State.{Byte, State}
 use Rattle.model.specs.Slot.{Call, Answer, slot}
-use Rattle.model.specs.Lists.{Step, stepOf, run, lastState, lastStore}
+use Rattle.model.specs.Lists.{stepOf, run, lastState, lastStore}
 use Rattle.model.proofs.Rules.{keeps-facts}
 use Rattle.model.proofs.Kept.{slot-kept}
 use Rattle.model.proofs.Idle.{last-append, last-store-append, run-append}
@@ -64,7 +64,8 @@ module _ {i : ℕ} {x : State} {store : List ℕ} {calls : List Call} {before af
         store-is = w .store-is ∙ ap (lastStore paper x store) whole;
       }
 
-  module _ (d call : Call) (is-call : getD calls i d ≡ call) (more : i < length calls) (room : length calls ≤ length before)
+  module _ (d call : Call) (is-call : getD calls i d ≡ call) (more : i < length calls) (room : length calls ≤ length
+      before)
       (r : Called) (m : Arrays) (tails heads owing store″ : List ℕ)
       (s : CalledSays state store′ call r m tails heads owing store″) where
     now : CalledSays state store′ (getD calls i d) r m tails heads owing store″
@@ -156,9 +157,11 @@ called x store call arrival request a m tails heads owing store′ r s ea er es 
     answer = s .answer-is ∙ ap (slot paper x store) same-call
 
 -- A slot keeps the store's length.
-pub store-kept : (small : Small) (m : Arrays) (tails heads owing store : List ℕ) (call : Call) (r : Called) (m′ : Arrays)
+pub store-kept : (small : Small) (m : Arrays) (tails heads owing store : List ℕ) (call : Call) (r : Called) (m′ :
+    Arrays)
     (tails′ heads′ owing′ store′ : List ℕ) → Ready small m tails heads owing store
     → CalledSays (stateIn small m) store call r m′ tails′ heads′ owing′ store′ → length store′ ≡ length store
 store-kept small m tails heads owing store call r m′ tails′ heads′ owing′ store′ v s =
     ap length (s .store-is)
-    ∙ slot-kept paper (stateIn small m) store call (omega arith) (keeps-facts paper (stateIn small m) (v .kept)) .same-length
+    ∙ slot-kept paper (stateIn small m) store call (omega arith) (keeps-facts paper (stateIn small m) (v .kept))
+    .same-length

@@ -1,27 +1,27 @@
 -- What each step asks is there when its turn comes: the refusals that were judged on the state as handed in rule out
 -- every case in which a step would have nothing to take or no room.
-use mathlib.Core.Path.{_≡_, refl, ap, sym, _∙_, subst}
+use mathlib.Core.Path.{_≡_, ap, sym, _∙_, subst}
 use mathlib.Core.Bool.{Bool, true, false}
-use mathlib.Core.List.{List, []}
+use mathlib.Core.List.{List}
 use mathlib.Core.Option.{Option, some, none}
-use Prim.Native.Nat.{ℕ, zero, suc, _+_, _-_, _*_, _<_, _≤_}
+use Prim.Native.Nat.{ℕ, _+_, _-_, _*_, _<_, _≤_}
 use native.Mathlib.Nat.{mul-le-mul-left, mul-comm}
 use native.Mathlib.Omega.{arith}
-use lib.Dec.{eqb, ltb}
+use lib.Dec.{ltb}
 use lib.ListN.{length, getD, length-append}
 use borrow.Author.Tests.{eqb-false, ltb-true, ltb-false}
-use Rattle.model.specs.Sizes.{Sizes, paperLimits, paper, accepts, lookahead, tailSize, headSize, storeBytes}
+use Rattle.model.specs.Sizes.{paperLimits, paper, accepts, lookahead, headSize}
 use Rattle.model.specs.State.{Byte, Cell, owed, Ring, ring, State, countOf, headBytes, tailBytes, blocks, ringOf}
-use Rattle.model.specs.Slot.{Call, oldestCell, arriving, isOwed, leavesUncovered, headFull, queueToWrite, queueToRead}
-use Rattle.model.specs.Slot.{joined, asked, wrote, wroteStore, refilled}
+use Rattle.model.specs.Slot.{Call, oldestCell, arriving, leavesUncovered, headFull, queueToRead}
+use Rattle.model.specs.Slot.{joined, asked, wrote, wroteStore}
 use Rattle.model.proofs.Words.{by-test}
 use Rattle.model.proofs.Rules.{Rules}
-use Rattle.model.proofs.Accepted.{Judged, Accepted}
+use Rattle.model.proofs.Accepted.{Judged}
 use Rattle.model.proofs.Kept.{write-taken, read-taken, rules-3, rules-written, same-length}
 use Rattle.model.proofs.IdealSlot.{held-before}
 use Rattle.caches.specs.Views.{bytesIn, countsIn}
 use Rattle.caches.proofs.Entries.{bytes-length}
-use Rattle.lookahead.specs.Views.{cellOf, cellsIn}
+use Rattle.lookahead.specs.Views.{cellOf}
 use Rattle.lookahead.specs.Says.{Shifted}
 use Rattle.parts.specs.declared.Small.{Small}
 use Rattle.parts.specs.Views.{Arrays, Long, sizesIn, ringsIn, stateIn}
@@ -30,10 +30,10 @@ use Rattle.parts.proofs.Ranges.{InLimits, in-limits}
 use Rattle.parts.proofs.Rings.{ring-at}
 use Rattle.steps.specs.declared.Gave.{Gave}
 use Rattle.steps.specs.declared.Asked.{Asked}
-use Rattle.steps.specs.Says.{DeliverSays, ArriveSays, AskSays, WriteSays, ReadSays}
+use Rattle.steps.specs.Says.{DeliverSays, ArriveSays, AskSays, WriteSays}
 use Rattle.steps.proofs.Moving.{oldest-cell}
 use Rattle.slots.specs.Says.{Decided}
-use Rattle.slots.proofs.Compose.{accepted, judged, head-1, tail-2, rings-1, store-1, head-2}
+use Rattle.slots.proofs.Compose.{accepted, judged, head-1, tail-2, rings-1, store-1}
 
 -- A leaving Owed cell has a head byte of its queue.
 pub uncovered-owed : (c : Cell) (y : State) (q : ℕ) → leavesUncovered c y ≡ false → c ≡ owed q → 1 ≤ headBytes y q

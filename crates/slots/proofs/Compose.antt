@@ -1,22 +1,19 @@
 -- The steps in code compose to the model's accepted slot: each step's array is the model's list after that step, so
 -- that what the next step asks of it is what the model's rules say of that list.
-use mathlib.Core.Path.{_≡_, refl, ap, sym, _∙_, subst}
-use mathlib.Core.Bool.{Bool, true, false}
+use mathlib.Core.Path.{_≡_, ap, sym, _∙_}
+use mathlib.Core.Bool.{Bool}
 use mathlib.Core.List.{List, [], _∷_, _++_}
-use mathlib.Core.Option.{Option, some, none}
-use Prim.Native.Nat.{ℕ, zero, suc, _+_, _-_, _*_, _<_, _≤_, max}
-use native.Mathlib.Omega.{arith}
-use lib.ListN.{length, take, drop, getD}
+use mathlib.Core.Option.{Option}
+use Prim.Native.Nat.{ℕ, _+_, _-_, max}
+use lib.ListN.{length, drop, getD}
 use Rattle.model.specs.Words.{choose}
-use Rattle.model.specs.Sizes.{Sizes, paper, lookahead, tailSize, headSize, storeBytes}
-use Rattle.model.specs.State.{Byte, Cell, empty, held, owed, Ring, State, countOf, ringOf}
-use Rattle.model.specs.Slot.{Call, oldestCell, headWithout, deliveryOf, delivery, arriving, isOwed, youngestCell, tailLeft}
-use Rattle.model.specs.Slot.{moves, queueToWrite, tailWritten, ringsWritten, storeWritten, queueToRead, headRead}
-use Rattle.model.specs.Slot.{ringsRead, afterPhase, joined, asked, wrote, wroteStore, refilled, headFull, refusal, accept}
-use Rattle.model.proofs.Words.{by-test}
-use Rattle.model.proofs.Rules.{Keeps, positive-sizes}
+use Rattle.model.specs.Sizes.{paper, lookahead}
+use Rattle.model.specs.State.{Byte, Cell, Ring, State}
+use Rattle.model.specs.Slot.{Call, oldestCell, headWithout, deliveryOf, delivery}
+use Rattle.model.specs.Slot.{moves, tailWritten, ringsWritten, storeWritten, queueToRead, headRead}
+use Rattle.model.specs.Slot.{ringsRead, joined, asked, wrote, wroteStore, refilled, accept}
 use Rattle.model.proofs.Accepted.{Judged, Accepted, accepted-facts}
-use Rattle.caches.specs.Views.{bytesIn, countsIn}
+use Rattle.caches.specs.Views.{bytesIn}
 use Rattle.lookahead.specs.Views.{cellOf, cellsIn}
 use Rattle.lookahead.specs.Says.{Shifted}
 use Rattle.parts.specs.declared.Small.{Small}
@@ -101,7 +98,8 @@ module _ (small : Small) (m : Arrays) (store : List ℕ) (call : Call) (isOwed�
             head-2 =
                 s6 .head-is
                 ∙ ap (λ (t : List Byte). headRead readQueue (moving (sizesIn small) [] t rings′) store₁) head-1
-                ∙ ap (λ (r : List Ring). headRead readQueue (moving (sizesIn small) [] (wrote x call .head) r) store₁) rings-1
+                ∙ ap (λ (r : List Ring). headRead readQueue (moving (sizesIn small) [] (wrote x call .head) r)
+                store₁) rings-1
                 ∙ moving-head readQueue (wrote x call) store₁
                 ∙ ap (λ (o : Option ℕ). headRead o (wrote x call) store₁) (d .read-is)
                 ∙ ap (λ (t : List ℕ). headRead (queueToRead (wrote x call)) (wrote x call) t) store-1

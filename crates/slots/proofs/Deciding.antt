@@ -1,7 +1,7 @@
 -- What judging by figures decides is what the model's slot finds: its refusal, the cell that its request takes, the
 -- queues that it writes and reads. Where the slot is accepted, every count that a step takes from is there.
-use mathlib.Core.Path.{_≡_, refl, ap, sym, _∙_, subst}
-use mathlib.Core.Bool.{Bool, true, false}
+use mathlib.Core.Path.{_≡_, ap, sym, _∙_, subst}
+use mathlib.Core.Bool.{Bool, false}
 use mathlib.Core.List.{List}
 use mathlib.Core.Option.{Option, some}
 use Prim.Native.Nat.{ℕ, _+_, _<_, _≤_}
@@ -10,7 +10,7 @@ use lib.ListN.{length, getD}
 use Rattle.model.specs.Words.{choose}
 use Rattle.model.specs.Sizes.{paper, lookahead}
 use Rattle.model.specs.State.{Byte, Cell, owed, State, countOf, owes, owedOf}
-use Rattle.model.specs.Slot.{Call, oldestCell, arriving, isOwed, joined, asked, wrote, queueToWrite, queueToRead, refusal}
+use Rattle.model.specs.Slot.{Call, oldestCell, arriving, isOwed, joined, asked, wrote, queueToRead, refusal}
 use Rattle.model.specs.Slot.{accept}
 use Rattle.model.proofs.Words.{eqb-same}
 use Rattle.model.proofs.Bytes.{count-append}
@@ -46,7 +46,8 @@ module _ (small : Small) (m : Arrays) (tails heads owing store : List ℕ) (r : 
       (omega (arith, standing.cells-in small m tails heads owing store r, r .long .cells-long))
 
   module _ (plan : Plan)
-      (says : PlanSays (figuresIn small tails heads owing (m .counts)) (small .phase) (small .«head_fill») (x .cells) call plan)
+      (says : PlanSays (figuresIn small tails heads owing (m .counts)) (small .phase) (small .«head_fill») (x .cells)
+      call plan)
     where
       by-figures : PlanSays (figuresOf x) (x .phase) (length (x .head)) (x .cells) call plan
       by-figures =
@@ -132,7 +133,8 @@ module _ (small : Small) (m : Arrays) (tails heads owing store : List ℕ) (r : 
           turned′ : TurnSays (x .phase) (x .sizes) (oldestCell (x .cells)) call (plan .owes) (chosenIn (plan .read))
               tails heads owing tails′ heads′ owing′ written
           turned′ =
-              subst (λ (c : Cell). TurnSays (x .phase) (x .sizes) c call (plan .owes) (chosenIn (plan .read)) tails heads
+              subst (λ (c : Cell). TurnSays (x .phase) (x .sizes) c call (plan .owes) (chosenIn (plan .read)) tails
+              heads
               owing tails′ heads′ owing′ written) (sym oldest) turned
 
           pub decided : Decided x store call (plan .owes) written (chosenIn (plan .read))
@@ -146,5 +148,6 @@ module _ (small : Small) (m : Arrays) (tails heads owing store : List ℕ) (r : 
 
           pub counted : Tallies (accept x store call .state) tails′ heads′ owing′
           counted =
-              tallies-kept x store call accepted tails heads owing tails′ heads′ owing′ (r .tallies) (plan .owes) owed-is
+              tallies-kept x store call accepted tails heads owing tails′ heads′ owing′ (r .tallies) (plan .owes)
+              owed-is
               (chosenIn (plan .read)) written read-is turned′

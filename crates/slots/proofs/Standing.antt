@@ -1,29 +1,28 @@
 -- A state that is ready for a slot: its counts are its figures, its fills lie in their arrays, and what an accepted slot
 -- leaves is ready again.
 use mathlib.Core.Path.{_≡_, refl, ap, sym, _∙_, subst, fun-ext}
-use mathlib.Core.Bool.{Bool, true, false}
+use mathlib.Core.Bool.{true}
 use mathlib.Core.List.{List, [], _∷_}
-use mathlib.Core.Option.{Option, some, none}
-use Prim.Native.Nat.{ℕ, zero, suc, _+_, _<_, _≤_}
+use Prim.Native.Nat.{ℕ, zero, suc, _<_, _≤_}
 use native.Mathlib.Omega.{arith}
 use lib.Dec.{ltb}
-use lib.ListN.{length, getD}
+use lib.ListN.{length}
 use borrow.Author.Tests.{ltb-true, ltb-false, lt-ltb}
-use Rattle.model.specs.Words.{choose, allOf}
+use Rattle.model.specs.Words.{allOf}
 use Rattle.model.specs.Sizes.{paperLimits, paper, accepts, lookahead, storeBytes}
 use Rattle.model.specs.State.{Byte, Cell, empty, held, owed, Ring, State, blocks, ringOf, byteBelow, cellBelow, keeps}
-use Rattle.model.specs.Slot.{Call, oldestCell, refusal, Answer, accept, refuse, answer, slot}
+use Rattle.model.specs.Slot.{Call, refusal, Answer, accept, refuse, answer, slot}
 use Rattle.model.proofs.Words.{by-test, all-of-holds}
 use Rattle.model.proofs.Bytes.{Below}
 use Rattle.model.proofs.Cells.{CellBelow, CellsBelow, cell-below-holds}
 use Rattle.model.proofs.Rules.{Keeps, keeps-facts, keeps-holds}
-use Rattle.model.proofs.Accepted.{Judged, accepted-facts}
+use Rattle.model.proofs.Accepted.{accepted-facts}
 use Rattle.model.proofs.Kept.{Kept, accept-kept}
 use Rattle.model.proofs.Calls.{answer-is}
 use Rattle.caches.specs.Views.{bytesIn, countsIn}
 use Rattle.caches.proofs.Entries.{bytes-length}
 use Rattle.caches.proofs.Tallies.{count-le}
-use Rattle.lookahead.specs.Views.{cellOf, cellsIn}
+use Rattle.lookahead.specs.Views.{cellsIn}
 use Rattle.lookahead.proofs.Cells.{cells-length}
 use Rattle.lookahead.proofs.Turns.{owed-at-most}
 use Rattle.parts.specs.declared.Small.{Small}
@@ -33,8 +32,7 @@ use Rattle.parts.proofs.Fits.{tail-below-array, head-below-array, fill-within}
 use Rattle.parts.proofs.Ranges.{InLimits, in-limits}
 use Rattle.parts.proofs.Rings.{ring-at, ring-past}
 use Rattle.slots.specs.declared.Carried.{Carried}
-use Rattle.slots.specs.declared.Advanced.{Advanced}
-use Rattle.slots.specs.Says.{Decided, CarrySays, Ready, answerIn}
+use Rattle.slots.specs.Says.{CarrySays, Ready}
 
 -- Cells below one bound are below a greater one.
 cells-below-more : (n k : ℕ) (cells : List Cell) → n ≤ k → CellsBelow n cells → CellsBelow k cells
@@ -111,100 +109,101 @@ countable small m long kept = record {
     few : small .queues ≤ 64
     few = in-limits small (v .sizes-ok) .q-high
 
-module _ (small : Small) (m : Arrays) (tails heads owing store : List ℕ) (r : Ready small m tails heads owing store) where
-  abbrev x : State
-  x = stateIn small m
+module _ (small : Small) (m : Arrays) (tails heads owing store : List ℕ) (r : Ready small m tails heads owing store)
+  where
+    abbrev x : State
+    x = stateIn small m
 
-  pub kept : Keeps paper x
-  kept = keeps-facts paper x (r .kept)
+    pub kept : Keeps paper x
+    kept = keeps-facts paper x (r .kept)
 
-  pub limits : InLimits small
-  limits = in-limits small (kept .sizes-ok)
+    pub limits : InLimits small
+    limits = in-limits small (kept .sizes-ok)
 
-  pub head-in : small .«head_fill» < 4034
-  head-in =
-      subst (λ (n : ℕ). small .«head_fill» < n) (r .long .head-long)
-      (fill-within (small .«head_fill») (m .head)
-      (omega (arith, kept .head-fits, head-below-array (sizesIn small) (kept .sizes-ok), r .long .head-long)))
+    pub head-in : small .«head_fill» < 4034
+    head-in =
+        subst (λ (n : ℕ). small .«head_fill» < n) (r .long .head-long)
+        (fill-within (small .«head_fill») (m .head)
+        (omega (arith, kept .head-fits, head-below-array (sizesIn small) (kept .sizes-ok), r .long .head-long)))
 
-  pub tail-in : small .«tail_fill» < 2144
-  tail-in =
-      subst (λ (n : ℕ). small .«tail_fill» < n) (r .long .tail-long)
-      (fill-within (small .«tail_fill») (m .tail)
-      (omega (arith, kept .tail-fits, tail-below-array (sizesIn small) (kept .sizes-ok), r .long .tail-long)))
+    pub tail-in : small .«tail_fill» < 2144
+    tail-in =
+        subst (λ (n : ℕ). small .«tail_fill» < n) (r .long .tail-long)
+        (fill-within (small .«tail_fill») (m .tail)
+        (omega (arith, kept .tail-fits, tail-below-array (sizesIn small) (kept .sizes-ok), r .long .tail-long)))
 
-  pub head-length : length (x .head) ≡ small .«head_fill»
-  head-length = bytes-length (small .«head_fill») (m .head) (omega (arith, head-in, r .long .head-long))
+    pub head-length : length (x .head) ≡ small .«head_fill»
+    head-length = bytes-length (small .«head_fill») (m .head) (omega (arith, head-in, r .long .head-long))
 
-  pub tail-length : length (x .tail) ≡ small .«tail_fill»
-  tail-length = bytes-length (small .«tail_fill») (m .tail) (omega (arith, tail-in, r .long .tail-long))
+    pub tail-length : length (x .tail) ≡ small .«tail_fill»
+    tail-length = bytes-length (small .«tail_fill») (m .tail) (omega (arith, tail-in, r .long .tail-long))
 
-  pub cells-in : lookahead (sizesIn small) ≤ 2017
-  cells-in = omega (arith, limits .span)
+    pub cells-in : lookahead (sizesIn small) ≤ 2017
+    cells-in = omega (arith, limits .span)
 
-  pub cells-known : allOf (cellBelow 64) (x .cells) ≡ true
-  cells-known =
-      all-of-holds (cellBelow 64) (CellBelow 64) (cell-below-holds 64) (x .cells)
-      (cells-below-more (small .queues) 64 (x .cells) (limits .q-high) (kept .within .cells-below))
+    pub cells-known : allOf (cellBelow 64) (x .cells) ≡ true
+    cells-known =
+        all-of-holds (cellBelow 64) (CellBelow 64) (cell-below-holds 64) (x .cells)
+        (cells-below-more (small .queues) 64 (x .cells) (limits .q-high) (kept .within .cells-below))
 
-  -- The counts that are kept beside the state are its figures.
-  pub figures-are : figuresIn small tails heads owing (m .counts) ≡ figuresOf x
-  figures-are =
-      same-figures small (sym tail-length) (fun-ext (r .tallies .tails-are .count-is))
-      (fun-ext (r .tallies .heads-are .count-is)) (fun-ext (r .tallies .owed-are .count-is))
-      (fun-ext (blocks-are (small .queues) (m .firsts) (m .counts)))
+    -- The counts that are kept beside the state are its figures.
+    pub figures-are : figuresIn small tails heads owing (m .counts) ≡ figuresOf x
+    figures-are =
+        same-figures small (sym tail-length) (fun-ext (r .tallies .tails-are .count-is))
+        (fun-ext (r .tallies .heads-are .count-is)) (fun-ext (r .tallies .owed-are .count-is))
+        (fun-ext (blocks-are (small .queues) (m .firsts) (m .counts)))
 
-  -- The counts are small.
-  pub tails-small : (q : ℕ) → countsIn tails q ≤ 2144
-  tails-small q = omega (arith, r .tallies .tails-are .count-is q, count-le q (x .tail), tail-length, tail-in)
+    -- The counts are small.
+    pub tails-small : (q : ℕ) → countsIn tails q ≤ 2144
+    tails-small q = omega (arith, r .tallies .tails-are .count-is q, count-le q (x .tail), tail-length, tail-in)
 
-  pub heads-small : (q : ℕ) → countsIn heads q ≤ 4034
-  heads-small q = omega (arith, r .tallies .heads-are .count-is q, count-le q (x .head), head-length, head-in)
+    pub heads-small : (q : ℕ) → countsIn heads q ≤ 4034
+    heads-small q = omega (arith, r .tallies .heads-are .count-is q, count-le q (x .head), head-length, head-in)
 
-  pub owing-small : (q : ℕ) → countsIn owing q ≤ 2017
-  owing-small q =
-      omega (
-        arith,
-        r .tallies .owed-are .count-is q,
-        owed-at-most q (x .cells),
-        cells-length (lookahead (sizesIn small)) (m .cells) (omega (arith, cells-in, r .long .cells-long)),
-        cells-in,
-      )
+    pub owing-small : (q : ℕ) → countsIn owing q ≤ 2017
+    owing-small q =
+        omega (
+          arith,
+          r .tallies .owed-are .count-is q,
+          owed-at-most q (x .cells),
+          cells-length (lookahead (sizesIn small)) (m .cells) (omega (arith, cells-in, r .long .cells-long)),
+          cells-in,
+        )
 
-  -- A refused slot answers its number, and nothing has changed.
-  module _ (call : Call) where
-    pub refused-slot : (n : ℕ) → (n ≡ 0 → ⊥) → n ≡ refusal paper x store call
-        → refuse n x store ≡ slot paper x store call
-    refused-slot zero f e = absurd (f refl)
-    refused-slot (suc n) f e = ap (λ (k : ℕ). answer k x store call) e
+    -- A refused slot answers its number, and nothing has changed.
+    module _ (call : Call) where
+      pub refused-slot : (n : ℕ) → (n ≡ 0 → ⊥) → n ≡ refusal paper x store call
+          → refuse n x store ≡ slot paper x store call
+      refused-slot zero f e = absurd (f refl)
+      refused-slot (suc n) f e = ap (λ (k : ℕ). answer k x store call) e
 
-    -- What an accepted slot leaves is ready.
-    module _ (accepted : refusal paper x store call ≡ 0) where
-      left : Kept paper x store (accept x store call)
-      left = accept-kept paper x store call (omega arith) (accepted-facts paper x store call accepted)
+      -- What an accepted slot leaves is ready.
+      module _ (accepted : refusal paper x store call ≡ 0) where
+        left : Kept paper x store (accept x store call)
+        left = accept-kept paper x store call (omega arith) (accepted-facts paper x store call accepted)
 
-      pub carried-ready : (c : Carried) (m′ : Arrays) (tails′ heads′ owing′ store′ : List ℕ)
-          → CarrySays x store call c m′ store′
-          → Tallies (accept x store call .state) tails′ heads′ owing′
-          → Ready (c .small) m′ tails′ heads′ owing′ store′
-      carried-ready c m′ tails′ heads′ owing′ store′ s t = record {
-        long = s .long;
-        kept = keeps-holds paper (stateIn (c .small) m′) (subst (Keeps paper) (sym (s .state-is)) (left .kept));
-        tallies = subst (λ (y : State). Tallies y tails′ heads′ owing′) (sym (s .state-is)) t;
-        store-long =
-            subst (λ (y : State). storeBytes (y .sizes) ≤ length store′) (sym (s .state-is))
-            (omega (arith, r .store-long, ap length (s .store-is), left .same-length));
-      }
+        pub carried-ready : (c : Carried) (m′ : Arrays) (tails′ heads′ owing′ store′ : List ℕ)
+            → CarrySays x store call c m′ store′
+            → Tallies (accept x store call .state) tails′ heads′ owing′
+            → Ready (c .small) m′ tails′ heads′ owing′ store′
+        carried-ready c m′ tails′ heads′ owing′ store′ s t = record {
+          long = s .long;
+          kept = keeps-holds paper (stateIn (c .small) m′) (subst (Keeps paper) (sym (s .state-is)) (left .kept));
+          tallies = subst (λ (y : State). Tallies y tails′ heads′ owing′) (sym (s .state-is)) t;
+          store-long =
+              subst (λ (y : State). storeBytes (y .sizes) ≤ length store′) (sym (s .state-is))
+              (omega (arith, r .store-long, ap length (s .store-is), left .same-length));
+        }
 
-      pub accepted-slot : (c : Carried) (m′ : Arrays) (store′ : List ℕ) (a : Answer)
-          → CarrySays x store call c m′ store′
-          → a .number ≡ 0
-          → a .delivered ≡ accept x store call .delivered
-          → a .written ≡ accept x store call .written
-          → a .read ≡ accept x store call .read
-          → a .state ≡ stateIn (c .small) m′
-          → a .store ≡ store′
-          → a ≡ slot paper x store call
-      accepted-slot c m′ store′ a s e₁ e₂ e₃ e₄ e₅ e₆ =
-          answer-is (accept x store call) a e₁ e₂ e₃ e₄ (e₅ ∙ s .state-is) (e₆ ∙ s .store-is)
-          ∙ ap (λ (k : ℕ). answer k x store call) (sym accepted)
+        pub accepted-slot : (c : Carried) (m′ : Arrays) (store′ : List ℕ) (a : Answer)
+            → CarrySays x store call c m′ store′
+            → a .number ≡ 0
+            → a .delivered ≡ accept x store call .delivered
+            → a .written ≡ accept x store call .written
+            → a .read ≡ accept x store call .read
+            → a .state ≡ stateIn (c .small) m′
+            → a .store ≡ store′
+            → a ≡ slot paper x store call
+        accepted-slot c m′ store′ a s e₁ e₂ e₃ e₄ e₅ e₆ =
+            answer-is (accept x store call) a e₁ e₂ e₃ e₄ (e₅ ∙ s .state-is) (e₆ ∙ s .store-is)
+            ∙ ap (λ (k : ℕ). answer k x store call) (sym accepted)

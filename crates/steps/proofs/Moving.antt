@@ -21,11 +21,13 @@ oldest-cell (suc n) [] l h = absurd (omega arith)
 oldest-cell (suc n) (c ∷ xs) l h = refl
 
 -- The two moves look at sizes, caches and rings alone.
-pub moving-tail : (o : Option ℕ) (y : State) → tailWritten o (moving (y .sizes) (y .tail) [] (y .rings)) ≡ tailWritten o y
+pub moving-tail : (o : Option ℕ) (y : State) → tailWritten o (moving (y .sizes) (y .tail) [] (y .rings)) ≡
+    tailWritten o y
 moving-tail none y = refl
 moving-tail (some q) y = refl
 
-pub moving-rings : (o : Option ℕ) (y : State) → ringsWritten o (moving (y .sizes) (y .tail) [] (y .rings)) ≡ ringsWritten o y
+pub moving-rings : (o : Option ℕ) (y : State) → ringsWritten o (moving (y .sizes) (y .tail) [] (y .rings)) ≡
+    ringsWritten o y
 moving-rings none y = refl
 moving-rings (some q) y = refl
 

@@ -3,15 +3,14 @@ use mathlib.Core.Path.{_≡_}
 use mathlib.Core.Bool.{Bool}
 use mathlib.Core.List.{List, [], _++_}
 use mathlib.Core.Option.{Option, some, none}
-use Prim.Native.Nat.{ℕ, _+_, _≤_, _<_}
+use Prim.Native.Nat.{ℕ, _+_, _≤_}
 use lib.ListN.{length}
 use Rattle.model.specs.Words.{choose}
 use Rattle.model.specs.Sizes.{Sizes}
 use Rattle.model.specs.State.{Byte, Cell, empty, owed, Ring, State}
 use Rattle.model.specs.Slot.{without, oldestOf, headWithout, deliveryOf, arriving, heldCell, tailWritten, ringsWritten}
 use Rattle.model.specs.Slot.{storeWritten, headRead, ringsRead}
-use Rattle.caches.specs.Views.{bytesIn, countsIn}
-use Rattle.caches.specs.Says.{chosenIn}
+use Rattle.caches.specs.Views.{bytesIn}
 use Rattle.lookahead.specs.Views.{cellOf}
 use Rattle.parts.specs.Calls.{deliveryIn}
 use Rattle.parts.specs.Views.{ringsIn}
@@ -60,7 +59,8 @@ moving s tail head rings = record {
 }
 
 -- 4. The write.
-pub record WriteSays (s : Sizes) (fill : ℕ) (written : Option ℕ) (firsts counts counts′ before after store store′ : List ℕ)
+pub record WriteSays (s : Sizes) (fill : ℕ) (written : Option ℕ) (firsts counts counts′ before after store store′ :
+    List ℕ)
     (r : ℕ) : Type 0 where
   pub tail-is : bytesIn r after ≡ tailWritten written (moving s (bytesIn fill before) [] (ringsIn (s .Q) firsts counts))
   pub rings-are : ringsIn (s .Q) firsts counts′
@@ -71,7 +71,8 @@ pub record WriteSays (s : Sizes) (fill : ℕ) (written : Option ℕ) (firsts cou
   pub counts-long : length counts′ ≡ length counts
 
 -- 4. The read.
-pub record ReadSays (s : Sizes) (fill : ℕ) (readQueue : Option ℕ) (firsts counts firsts′ counts′ before after store : List ℕ)
+pub record ReadSays (s : Sizes) (fill : ℕ) (readQueue : Option ℕ) (firsts counts firsts′ counts′ before after store :
+    List ℕ)
     (r : ℕ) : Type 0 where
   pub head-is : bytesIn r after
       ≡ headRead readQueue (moving s [] (bytesIn fill before) (ringsIn (s .Q) firsts counts)) store

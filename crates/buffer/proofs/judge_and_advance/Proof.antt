@@ -1,6 +1,5 @@
 -- `judge_and_advance` meets its contract: 3 and 2 are judged as the model judges them, and the rest is one slot in place.
-use mathlib.Core.Path.{_≡_, refl, ap, sym, _∙_}
-use mathlib.Core.Bool.{true}
+use mathlib.Core.Path.{ap, sym, _∙_}
 use native.Mathlib.Omega.{arith}
 use borrow.Author.Needs.{needs}
 use Rattle.model.specs.Slot.{Call}
@@ -38,9 +37,11 @@ mul-if2-2 c =
 
 take-counts-requires : tie.Need-take-counts-requires
 take-counts-requires c κs =
-    let s = c .before .before .before .before .before .before .before .before .before .before .before .before .before .before in
+    let s = c .before .before .before .before .before .before .before .before .before .before .before .before .before
+    .before in
     let l = s .pre in
-    let kept = sym (c .before .before .before .before .before .before .before .keeps-rules .ensures) ∙ c .before .before .before .before .before .before .if1 .taken in
+    let kept = sym (c .before .before .before .before .before .before .before .keeps-rules .ensures) ∙ c .before
+    .before .before .before .before .before .if1 .taken in
     let k = countable (s .args .small) (memory s) l kept in (
       l .tail-long,
       l .head-long,
@@ -55,13 +56,20 @@ take-counts-requires c κs =
 
 advance-requires : tie.Need-advance-requires
 advance-requires c κs =
-    let s = c .before .before .before .before .before .before .before .before .before .before .before .before .before .before .before .before .before .before .before .before .before .before .before .before .before .before .before in
-    let t = c .before .before .before .before .before .before .before .before .before .before .before .before .take-counts .ensures in
+    let s = c .before .before .before .before .before .before .before .before .before .before .before .before .before
+    .before .before .before .before .before .before .before .before .before .before .before .before .before
+    .before in
+    let t = c .before .before .before .before .before .before .before .before .before .before .before .before
+    .take-counts .ensures in
     record {
       long = s .pre;
-      kept = sym (c .before .before .before .before .before .before .before .before .before .before .before .before .before .before .before .before .before .before .before .before .keeps-rules .ensures) ∙ c .before .before .before .before .before .before .before .before .before .before .before .before .before .before .before .before .before .before .before .if1 .taken;
+      kept = sym (c .before .before .before .before .before .before .before .before .before .before .before .before
+          .before .before .before .before .before .before .before .before .keeps-rules .ensures) ∙ c .before .before
+          .before .before .before .before .before .before .before .before .before .before .before .before .before
+          .before .before .before .before .if1 .taken;
       tallies = record { tails-are = t .0; heads-are = t .1; owed-are = t .2 };
-      store-long = c .before .before .before .before .before .before .before .before .before .before .before .before .before .before .before .before .if2 .taken;
+      store-long = c .before .before .before .before .before .before .before .before .before .before .before .before
+          .before .before .before .before .if2 .taken;
     }
 
 same-length : tie.Need-same-length
@@ -76,7 +84,8 @@ refused-requires c κs = search needs
 returns-2 : tie.Need-returns-2
 returns-2 c =
     let s = c .before .before .before .before .before .before .before .before .before .before .before .before in
-    let kept = sym (c .before .before .before .before .before .keeps-rules .ensures) ∙ c .before .before .before .before .if1 .taken in
+    let kept = sym (c .before .before .before .before .before .keeps-rules .ensures) ∙ c .before .before .before
+    .before .if1 .taken in
     ap (λ (a : Advanced). answerIn a (memory s) (s .args .store .now)) (c .refused .ensures)
     ∙ sym (two _ (s .args .store .now) (asked-call s) kept (omega (arith, c .before .if2 .left)))
 

@@ -26,9 +26,11 @@ same-length-2 c = search needs
 
 returns-2 : tie.Need-returns-2
 returns-2 c =
-    let a = c .before .before .before .before .before .before .before .before .before .before .before .before .before .args in
+    let a = c .before .before .before .before .before .before .before .before .before .before .before .before .before
+    .args in
     drove (a .queues) (a .block) (a .blocks) _ (a .calls .now) (a .answers .now) _ (a .store .now) _ _
-    (c .before .before .before .before .before .before .before .before .before .make .ensures) (c .before .before .before .before .before .before .before .before .if1 .left) (c .before .before .before .before .run .ensures)
+    (c .before .before .before .before .before .before .before .before .before .make .ensures) (c .before .before
+    .before .before .before .before .before .before .if1 .left) (c .before .before .before .before .run .ensures)
 
 pub drive-run-spec : {M : Type 1} → statement M
 drive-run-spec =

@@ -31,7 +31,13 @@ loop-holds c = search needs
 
 mul-call : tie.Need-mul-call Inv-loop μ-loop
 mul-call c =
-    omega (arith, c .before .loop-test .taken, c .before .before .loop .inv, c .before .before .before .before .before .before .before .before .before .before .before .good .1 .1 .1 .0)
+    omega (
+      arith,
+      c .before .loop-test .taken,
+      c .before .before .loop .inv,
+      c .before .before .before .before
+          .before .before .before .before .before .before .before .good .1 .1 .1 .0,
+    )
 
 shared-slice-read-call : tie.Need-shared-slice-read-call Inv-loop μ-loop
 shared-slice-read-call c = search needs
@@ -50,7 +56,15 @@ answer-word-requires c κs = search needs
 
 mul-answers : tie.Need-mul-answers Inv-loop μ-loop
 mul-answers c =
-    omega (arith, c .before .before .before .before .before .before .before .before .before .loop-test .taken, c .before .before .before .before .before .before .before .before .before .before .loop .inv, c .before .before .before .before .before .before .before .before .before .before .before .before .before .before .before .before .before .before .before .good .1 .1 .1 .1 .0)
+    omega (
+      arith,
+      c .before .before .before .before .before .before .before .before .before .loop-test .taken,
+      c
+          .before .before .before .before .before .before .before .before .before .before .loop .inv,
+      c .before .before
+          .before .before .before .before .before .before .before .before .before .before .before .before .before
+          .before .before .before .before .good .1 .1 .1 .1 .0,
+    )
 
 slice-write-answers : tie.Need-slice-write-answers Inv-loop μ-loop
 slice-write-answers c = search needs
@@ -63,8 +77,13 @@ loop-less c = search needs
 
 loop-again : tie.Need-loop-again Inv-loop μ-loop
 loop-again c =
-    let loop = c .before .before .before .before .before .before .before .before .before .before .loop in
-    (length-set (loop .answers) (loop .i) _ ∙ loop .inv .0, c .before .before .store .given ∙ loop .inv .1, loop .inv .2, loop .inv .3)
+    let loop = c .before .before .before .before .before .before .before .before .before .before .loop in (
+      length-set (loop .answers) (loop .i) _ ∙ loop .inv .0,
+      c .before .before .store .given ∙ loop .inv .1,
+      loop .inv
+          .2,
+      loop .inv .3,
+    )
 
 same-length : tie.Need-same-length Inv-loop μ-loop
 same-length c = search needs

@@ -52,8 +52,10 @@ loop-holds c =
     let a = c .before .before .before .before .before .before .before .before .before .args in
     let rest = c .at-rest .ensures in
     let few = c .before .smaller .ensures in
-    let kept = keeps-made (a .queues) (a .block) (a .blocks) _ (c .before .before .before .before .before .make .ensures) (c .before .before .before .if1 .left) in
-    let need = need-made (a .queues) (a .block) (a .blocks) _ (c .before .before .before .before .before .make .ensures) (c .before .before .before .if1 .left) in (
+    let kept = keeps-made (a .queues) (a .block) (a .blocks) _ (c .before .before .before .before .before .make
+    .ensures) (c .before .before .before .if1 .left) in
+    let need = need-made (a .queues) (a .block) (a .blocks) _ (c .before .before .before .before .before .make
+    .ensures) (c .before .before .before .if1 .left) in (
       refl,
       refl,
       few .0,
@@ -64,7 +66,13 @@ loop-holds c =
 
 mul-call : tie.Need-mul-call Inv-loop μ-loop
 mul-call c =
-    omega (arith, c .before .loop-test .taken, c .before .before .loop .inv .2, c .before .before .before .before .before .before .before .before .before .before .before .before .good .1 .1 .1 .0)
+    omega (
+      arith,
+      c .before .loop-test .taken,
+      c .before .before .loop .inv .2,
+      c .before .before .before .before
+          .before .before .before .before .before .before .before .before .good .1 .1 .1 .0,
+    )
 
 shared-slice-read-call : tie.Need-shared-slice-read-call Inv-loop μ-loop
 shared-slice-read-call c = search needs
@@ -76,14 +84,28 @@ request-in-requires : tie.Need-request-in-requires Inv-loop μ-loop
 request-in-requires c κs = search needs
 
 step-requires : tie.Need-step-requires Inv-loop μ-loop
-step-requires c κs = (c .before .before .before .before .before .before .loop .inv .4, c .before .before .before .before .before .before .loop .inv .5)
+step-requires c κs = (
+  c .before .before .before .before .before .before .loop .inv .4,
+  c .before .before .before
+      .before .before .before .loop .inv .5,
+)
 
 answer-word-requires : tie.Need-answer-word-requires Inv-loop μ-loop
 answer-word-requires c κs = search needs
 
 mul-answers : tie.Need-mul-answers Inv-loop μ-loop
 mul-answers c =
-    omega (arith, c .before .before .before .before .before .before .before .before .before .loop-test .taken, c .before .before .before .before .before .before .before .before .before .before .loop .inv .0, c .before .before .before .before .before .before .before .before .before .before .loop .inv .3, c .before .before .before .before .before .before .before .before .before .before .before .before .before .before .before .before .before .before .before .before .good .1 .1 .1 .1 .0)
+    omega (
+      arith,
+      c .before .before .before .before .before .before .before .before .before .loop-test .taken,
+      c
+          .before .before .before .before .before .before .before .before .before .before .loop .inv .0,
+      c .before
+          .before .before .before .before .before .before .before .before .before .loop .inv .3,
+      c .before .before
+          .before .before .before .before .before .before .before .before .before .before .before .before .before
+          .before .before .before .before .before .good .1 .1 .1 .1 .0,
+    )
 
 slice-write-answers : tie.Need-slice-write-answers Inv-loop μ-loop
 slice-write-answers c = search needs

@@ -12,7 +12,8 @@ cast-q c = search needs
 
 -- An Owed cell's queue, and that it has one to take.
 there : (c : tie.Then1)
-    → (c .before .args .leaving / 256 % 256 < 64) × (1 ≤ getD (c .before .args .counts .now) (c .before .args .leaving / 256 % 256) 0)
+    → (c .before .args .leaving / 256 % 256 < 64) × (1 ≤ getD (c .before .args .counts .now) (c .before .args
+    .leaving / 256 % 256) 0)
 there c = spendable-at (c .before .args .counts .now) (c .before .args .leaving) (c .before .pre .1) (c .if1 .taken)
 
 mul-counts : tie.Need-mul-counts
@@ -33,7 +34,8 @@ element-write-counts c = there (c .before) .0
 returns : tie.Need-returns
 returns c =
     let start = c .before .before in
-    spends-one (start .args .counts .now) (start .args .leaving) (start .pre .0) (c .before .if1 .taken) (there (c .before) .0)
+    spends-one (start .args .counts .now) (start .args .leaving) (start .pre .0) (c .before .if1 .taken) (there (c
+    .before) .0)
 
 returns-2 : tie.Need-returns-2
 returns-2 c =

@@ -23,10 +23,16 @@ same-length c = search needs
 
 returns : tie.Need-returns
 returns c =
-    let s = c .before .before .before .before .before .before .before .before .before .before .before .before .before .before .before .before .before in
+    let s = c .before .before .before .before .before .before .before .before .before .before .before .before .before
+    .before .before .before .before in
     let a = c .before .before .before .before .advance in
-    called _ _ (callOf (s .args .call)) (c .before .before .before .before .before .before .before .before .before .before .before .before .before .before .before .arrival-in .result) (c .before .before .before .before .before .before .before .before .before .before .before .before .before .before .request-in .result) (a .result) _ _ _ _ _ _
-    (a .ensures) (c .before .before .before .before .before .before .before .before .before .before .before .before .before .before .before .arrival-in .ensures) (c .before .before .before .before .before .before .before .before .before .before .before .before .before .before .request-in .ensures) refl (c .answer-word .ensures)
+    called _ _ (callOf (s .args .call)) (c .before .before .before .before .before .before .before .before .before
+    .before .before .before .before .before .before .arrival-in .result) (c .before .before .before .before
+    .before .before .before .before .before .before .before .before .before .before .request-in .result) (a
+    .result) _ _ _ _ _ _
+    (a .ensures) (c .before .before .before .before .before .before .before .before .before .before .before .before
+    .before .before .before .arrival-in .ensures) (c .before .before .before .before .before .before .before
+    .before .before .before .before .before .before .before .request-in .ensures) refl (c .answer-word .ensures)
 
 pub answer-call-spec : {M : Type 1} → statement M
 answer-call-spec =

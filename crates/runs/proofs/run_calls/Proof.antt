@@ -1,16 +1,14 @@
 -- `run_calls` meets its contract: before call i the first i calls have been run as the model's list, and the state is
 -- ready for the next; the measure is the number of calls left.
-use mathlib.Core.Path.{_≡_, refl, ap, sym, _∙_, subst}
+use mathlib.Core.Path.{_≡_, refl, _∙_}
 use mathlib.Core.List.{map}
 use Prim.Native.Nat.{_-_}
 use native.Mathlib.Omega.{arith}
 use borrow.Author.Needs.{needs}
 use lib.ListN.{length, length-map, length-set, getD}
-use Rattle.model.specs.Slot.{Call}
 use Rattle.parts.specs.Views.{arrays, stateIn}
 use Rattle.slots.specs.Says.{Ready}
 use Rattle.words.specs.Words.{callOf}
-use Rattle.runs.specs.Says.{CalledSays}
 use Rattle.runs.proofs.Turns.{RunTo, run-starts, run-turn, run-ends, call-at, store-kept}
 use Rattle.runs.proofs.run_calls.Statement.{statement}
 use Rattle.runs.proofs.run_calls.Tie as tie
@@ -39,32 +37,64 @@ shared-slice-read-answer-call : tie.Need-shared-slice-read-answer-call Inv-loop 
 shared-slice-read-answer-call c = search needs
 
 answer-call-requires : tie.Need-answer-call-requires Inv-loop μ-loop
-answer-call-requires c κs = c .before .before .before .before .before .before .before .before .before .before .before .loop .inv .0
+answer-call-requires c κs = c .before .before .before .before .before .before .before .before .before .before .before
+    .loop .inv .0
 
 mul-answers : tie.Need-mul-answers Inv-loop μ-loop
 mul-answers c =
-    omega (arith, c .before .before .before .before .before .before .before .before .before .before .before .before .before .before .loop-test .taken, c .before .before .before .before .before .before .before .before .before .before .before .before .before .before .before .before .before .before .before .pre .1, c .before .before .before .before .before .before .before .before .before .before .before .before .before .before .before .loop .inv .2, c .before .before .before .before .before .before .before .before .before .before .before .before .before .before .before .before .before .before .before .good .1 .1 .1 .1 .1 .1 .1 .1 .1 .1 .0)
+    omega (
+      arith,
+      c .before .before .before .before .before .before .before .before .before .before .before .before
+          .before .before .loop-test .taken,
+      c .before .before .before .before .before .before .before .before .before
+          .before .before .before .before .before .before .before .before .before .before .pre .1,
+      c .before .before
+          .before .before .before .before .before .before .before .before .before .before .before .before .before .loop
+          .inv .2,
+      c .before .before .before .before .before .before .before .before .before .before .before .before
+          .before .before .before .before .before .before .before .good .1 .1 .1 .1 .1 .1 .1 .1 .1 .1 .0,
+    )
 
 slice-write-answers : tie.Need-slice-write-answers Inv-loop μ-loop
 slice-write-answers c =
-    omega (arith, c .before .before .before .before .before .before .before .before .before .before .before .before .before .before .loop-test .taken, c .before .before .before .before .before .before .before .before .before .before .before .before .before .before .before .before .before .before .before .pre .1, c .before .before .before .before .before .before .before .before .before .before .before .before .before .before .before .loop .inv .2)
+    omega (
+      arith,
+      c .before .before .before .before .before .before .before .before .before .before .before .before
+          .before .before .loop-test .taken,
+      c .before .before .before .before .before .before .before .before .before
+          .before .before .before .before .before .before .before .before .before .before .pre .1,
+      c .before .before
+          .before .before .before .before .before .before .before .before .before .before .before .before .before .loop
+          .inv .2,
+    )
 
 add-i : tie.Need-add-i Inv-loop μ-loop
-add-i c = omega (arith, c .before .before .before .before .before .before .before .before .before .before .before .before .before .before .loop-test .taken, c .before .before .before .before .before .before .before .before .before .before .before .before .before .before .before .before .before .before .before .good .1 .1 .1 .1 .1 .1 .1 .1 .1 .0)
+add-i c = omega (
+  arith,
+  c .before .before .before .before .before .before .before .before .before .before .before
+      .before .before .before .loop-test .taken,
+  c .before .before .before .before .before .before .before .before
+      .before .before .before .before .before .before .before .before .before .before .before .good .1 .1 .1 .1 .1 .1
+      .1 .1 .1 .0,
+)
 
 loop-less : tie.Need-loop-less Inv-loop μ-loop
 loop-less c = search needs
 
 loop-again : tie.Need-loop-again Inv-loop μ-loop
 loop-again c =
-    let s = c .before .before .before .before .before .before .before .before .before .before .before .before .before .before .before .before .before .before .before in
-    let loop = c .before .before .before .before .before .before .before .before .before .before .before .before .before .before .before .loop in
+    let s = c .before .before .before .before .before .before .before .before .before .before .before .before .before
+    .before .before .before .before .before .before in
+    let loop = c .before .before .before .before .before .before .before .before .before .before .before .before
+    .before .before .before .loop in
     let turn = c .before .before .before .answer-call .ensures in
     let all = length-map (s .args .calls .now) callOf in
-    let there = c .before .before .before .before .before .before .before .before .before .before .before .before .before .before .loop-test .taken in (
+    let there = c .before .before .before .before .before .before .before .before .before .before .before .before
+    .before .before .loop-test .taken in (
       turn .ready,
       run-turn (loop .inv .1) (callOf 0) (callOf (getD (s .args .calls .now) (loop .i) 0))
-          (call-at (s .args .calls .now) (loop .i)) (omega (arith, there, all)) (omega (arith, s .pre .1, all)) _ _ _ _ _ _ turn,
+          (call-at (s .args .calls .now) (loop .i)) (omega (arith, there, all)) (omega (arith, s .pre .1, all)) _ _ _
+          _ _ _ turn,
       length-set (loop .answers) (loop .i) _ ∙ loop .inv .2,
       store-kept _ (arrays (loop .tail) (loop .head) (loop .cells) (loop .firsts) (loop .counts)) _ _ _ _ _ _ _ _ _ _ _
           (loop .inv .0) turn ∙ loop .inv .3,

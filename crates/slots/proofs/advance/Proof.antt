@@ -1,5 +1,5 @@
 -- `advance` meets its contract: it judges as the model does (Deciding), and carries out what the model accepts.
-use mathlib.Core.Path.{_≡_, refl, sym, _∙_}
+use mathlib.Core.Path.{refl}
 use native.Mathlib.Omega.{arith}
 use borrow.Author.Needs.{needs}
 use Rattle.model.specs.Slot.{Call}
@@ -40,7 +40,8 @@ returns c =
     let says = c .before .judge-slot .ensures in
     let number = deciding.number-is (s .args .small) (memory s) _ _ _ _ (s .pre) (asked-call s) _ says in
     record {
-      answer-is = standing.refused-slot (s .args .small) (memory s) _ _ _ _ (s .pre) (asked-call s) _ (c .if1 .taken) number;
+      answer-is = standing.refused-slot (s .args .small) (memory s) _ _ _ _ (s .pre) (asked-call s) _ (c .if1 .taken)
+          number;
       ready = s .pre;
     }
 
@@ -71,8 +72,10 @@ turn-requires c κs =
 
 carry-requires : tie.Need-carry-requires
 carry-requires c κs =
-    let s = c .before .before .before .before .before .before .before .before .before .before .before .before .before .before .before .before .before .before .before in
-    let says = c .before .before .before .before .before .before .before .before .before .before .before .before .judge-slot .ensures in
+    let s = c .before .before .before .before .before .before .before .before .before .before .before .before .before
+    .before .before .before .before .before .before in
+    let says = c .before .before .before .before .before .before .before .before .before .before .before .before
+    .judge-slot .ensures in
     let none = c .before .before .before .before .before .before .before .before .before .before .before .if1 .left in
     let turned = c .before .before .before .before .before .before .turn .ensures in (
       s .pre .long,
@@ -84,9 +87,12 @@ same-length c = search needs
 
 returns-2 : tie.Need-returns-2
 returns-2 c =
-    let s = c .before .before .before .before .before .before .before .before .before .before .before .before .before .before .before .before .before .before .before .before .before .before .before in
-    let says = c .before .before .before .before .before .before .before .before .before .before .before .before .before .before .before .before .judge-slot .ensures in
-    let none = c .before .before .before .before .before .before .before .before .before .before .before .before .before .before .before .if1 .left in
+    let s = c .before .before .before .before .before .before .before .before .before .before .before .before .before
+    .before .before .before .before .before .before .before .before .before .before in
+    let says = c .before .before .before .before .before .before .before .before .before .before .before .before
+    .before .before .before .before .judge-slot .ensures in
+    let none = c .before .before .before .before .before .before .before .before .before .before .before .before
+    .before .before .before .if1 .left in
     let turned = c .before .before .before .before .before .before .before .before .before .before .turn .ensures in
     let carried = c .before .before .before .carry .ensures in
     let accepted = deciding.accepted (s .args .small) (memory s) _ _ _ _ (s .pre) (asked-call s) _ says none in

@@ -1,6 +1,6 @@
 -- `carry` meets its contract: each step finds what it asks (Asks), and what the steps leave is what the model's accepted
 -- slot leaves (Compose).
-use mathlib.Core.Path.{_≡_, ap, sym, _∙_}
+use mathlib.Core.Path.{ap, sym, _∙_}
 use native.Mathlib.Omega.{arith}
 use borrow.Author.Needs.{needs}
 use lib.ListN.{length}
@@ -69,8 +69,10 @@ shift-requires c κs =
 
 write-requires : tie.Need-write-requires
 write-requires c κs =
-    let s = c .before .before .before .before .before .before .before .before .before .before .before .before .before .before .before .before in
-    let s1 = c .before .before .before .before .before .before .before .before .before .before .before .before .deliver .ensures in
+    let s = c .before .before .before .before .before .before .before .before .before .before .before .before .before
+    .before .before .before in
+    let s1 = c .before .before .before .before .before .before .before .before .before .before .before .before
+    .deliver .ensures in
     let s2 = c .before .before .before .before .before .before .before .before .before .before .arrive .ensures in
     let s3 = c .before .before .before .before .before .before .before .before .ask .ensures in
     let s4 = c .before .before .before .before .shift .ensures in
@@ -85,11 +87,16 @@ write-requires c κs =
 
 read-requires : tie.Need-read-requires
 read-requires c κs =
-    let s = c .before .before .before .before .before .before .before .before .before .before .before .before .before .before .before .before .before .before .before .before .before .before .before in
-    let s1 = c .before .before .before .before .before .before .before .before .before .before .before .before .before .before .before .before .before .before .before .deliver .ensures in
-    let s2 = c .before .before .before .before .before .before .before .before .before .before .before .before .before .before .before .before .before .arrive .ensures in
-    let s3 = c .before .before .before .before .before .before .before .before .before .before .before .before .before .before .before .ask .ensures in
-    let s4 = c .before .before .before .before .before .before .before .before .before .before .before .shift .ensures in
+    let s = c .before .before .before .before .before .before .before .before .before .before .before .before .before
+    .before .before .before .before .before .before .before .before .before .before in
+    let s1 = c .before .before .before .before .before .before .before .before .before .before .before .before
+    .before .before .before .before .before .before .before .deliver .ensures in
+    let s2 = c .before .before .before .before .before .before .before .before .before .before .before .before
+    .before .before .before .before .before .arrive .ensures in
+    let s3 = c .before .before .before .before .before .before .before .before .before .before .before .before
+    .before .before .before .ask .ensures in
+    let s4 = c .before .before .before .before .before .before .before .before .before .before .before .shift
+    .ensures in
     let s5 = c .before .before .before .before .before .before .write .ensures in
     let d = s .pre .1 in (
       asks.head-still-in (s .args .small) (memory s) _ _ _ _ _ (s .pre .0) d _ _ _ _ s1 s2 _ _ _ s3 s4 _ _ _ _ s5,
@@ -106,7 +113,8 @@ read-requires c κs =
 
 next-phase-requires : tie.Need-next-phase-requires
 next-phase-requires c κs =
-    let s = c .before .before .before .before .before .before .before .before .before .before .before .before .before .before .before .before .before .before .before .before .before .before .before .before in
+    let s = c .before .before .before .before .before .before .before .before .before .before .before .before .before
+    .before .before .before .before .before .before .before .before .before .before .before in
     let d = s .pre .1 in (
       asks.judged′ (s .args .small) (memory s) _ _ _ _ _ (s .pre .0) d .kept .phase-ok,
       asks.limits (s .args .small) (memory s) _ _ _ _ _ (s .pre .0) d .b-high,
@@ -123,19 +131,27 @@ same-length c = search needs
 
 returns : tie.Need-returns
 returns c =
-    let s = c .before .before .before .before .before .before .before .before .before .before .before .before .before .before .before .before .before .before .before .before .before .before .before .before .before .before .before in
-    let s1 = c .before .before .before .before .before .before .before .before .before .before .before .before .before .before .before .before .before .before .before .before .before .before .before .deliver .ensures in
-    let s2 = c .before .before .before .before .before .before .before .before .before .before .before .before .before .before .before .before .before .before .before .before .before .arrive .ensures in
-    let s3 = c .before .before .before .before .before .before .before .before .before .before .before .before .before .before .before .before .before .before .before .ask .ensures in
-    let s4 = c .before .before .before .before .before .before .before .before .before .before .before .before .before .before .before .shift .ensures in
+    let s = c .before .before .before .before .before .before .before .before .before .before .before .before .before
+    .before .before .before .before .before .before .before .before .before .before .before .before .before
+    .before in
+    let s1 = c .before .before .before .before .before .before .before .before .before .before .before .before
+    .before .before .before .before .before .before .before .before .before .before .before .deliver .ensures in
+    let s2 = c .before .before .before .before .before .before .before .before .before .before .before .before
+    .before .before .before .before .before .before .before .before .before .arrive .ensures in
+    let s3 = c .before .before .before .before .before .before .before .before .before .before .before .before
+    .before .before .before .before .before .before .before .ask .ensures in
+    let s4 = c .before .before .before .before .before .before .before .before .before .before .before .before
+    .before .before .before .shift .ensures in
     let s5 = c .before .before .before .before .before .before .before .before .before .before .write .ensures in
     let s6 = c .before .before .before .read .ensures in
     let d = s .pre .1 in
     let first = asks.oldest (s .args .small) (memory s) _ _ _ _ _ (s .pre .0) d in
-    let head-is = head-2 (s .args .small) (memory s) _ _ _ _ _ (s .pre .0) d _ _ _ _ _ _ _ first s1 s2 s3 s4 _ _ _ _ s5 _ _
+    let head-is = head-2 (s .args .small) (memory s) _ _ _ _ _ (s .pre .0) d _ _ _ _ _ _ _ first s1 s2 s3 s4 _ _ _ _
+    s5 _ _
     _ _ s6 in
     record {
-      state-is = state-after (s .args .small) (memory s) _ _ _ _ _ (s .pre .0) d _ _ _ _ _ _ _ first s1 s2 s3 s4 _ _ _ _ s5
+      state-is = state-after (s .args .small) (memory s) _ _ _ _ _ (s .pre .0) d _ _ _ _ _ _ _ first s1 s2 s3 s4 _ _
+          _ _ s5
           _ _ _ _ s6 _ _ _
           (c .before .before .next-phase .ensures)
           (c .before .larger .ensures)

@@ -12,13 +12,22 @@ tally-requires-2 : tie.Need-tally-requires-2
 tally-requires-2 c κs = search needs
 
 sub-tally-owed : tie.Need-sub-tally-owed
-sub-tally-owed c = let s = c .before .before .before .before .before .before in in-limits (s .args .small) (s .pre .5) .b-low
+sub-tally-owed c = let s = c .before .before .before .before .before .before in in-limits (s .args .small) (s .pre
+    .5) .b-low
 
 mul-tally-owed : tie.Need-mul-tally-owed
-mul-tally-owed c = let s = c .before .before .before .before .before .before .before in omega (arith, in-limits (s .args .small) (s .pre .5) .span)
+mul-tally-owed c = let s = c .before .before .before .before .before .before .before in omega (
+  arith,
+  in-limits (s
+      .args .small) (s .pre .5) .span,
+)
 
 add-tally-owed : tie.Need-add-tally-owed
-add-tally-owed c = let s = c .before .before .before .before .before .before .before in omega (arith, in-limits (s .args .small) (s .pre .5) .span)
+add-tally-owed c = let s = c .before .before .before .before .before .before .before in omega (
+  arith,
+  in-limits (s
+      .args .small) (s .pre .5) .span,
+)
 
 tally-owed-requires : tie.Need-tally-owed-requires
 tally-owed-requires c κs =

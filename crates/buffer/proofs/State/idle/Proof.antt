@@ -23,15 +23,19 @@ mul-if2-2 c =
     omega (arith, need-small (s .args .t1) kept .1)
 
 idle-kept-requires : tie.Need-idle-kept-requires
-idle-kept-requires c κs =
-    (sym (c .before .before .before .before .before .keeps-rules .ensures) ∙ c .before .before .before .before .if1 .taken, c .before .if2 .taken)
+idle-kept-requires c κs = (
+  sym (c .before .before .before .before .before .keeps-rules .ensures) ∙ c .before .before .before .before .if1
+      .taken,
+  c .before .if2 .taken,
+)
 
 same-length : tie.Need-same-length
 same-length c = search needs
 
 returns : tie.Need-returns
 returns c =
-    let s = c .before .before .before .before .before .before .before .before .before .before .before .before .before .before .before .before .before in
+    let s = c .before .before .before .before .before .before .before .before .before .before .before .before .before
+    .before .before .before .before in
     let v = c .before .before .idle-kept .ensures in
     idled (s .args .t1) (s .args .store .now) (s .args .n) _ _ (v .0) (v .1) (v .2)
 

@@ -34,8 +34,10 @@ take-counts-requires c κs =
 
 idle-slots-requires : tie.Need-idle-slots-requires
 idle-slots-requires c κs =
-    let s = c .before .before .before .before .before .before .before .before .before .before .before .before .before .before .before .before .before .before .before .before .before .before .before in
-    let t = c .before .before .before .before .before .before .before .before .before .before .before .before .take-counts .ensures in
+    let s = c .before .before .before .before .before .before .before .before .before .before .before .before .before
+    .before .before .before .before .before .before .before .before .before .before in
+    let t = c .before .before .before .before .before .before .before .before .before .before .before .before
+    .take-counts .ensures in
     record {
       long = long s;
       kept = s .pre .0;

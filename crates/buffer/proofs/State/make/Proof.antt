@@ -15,7 +15,8 @@ returns : tie.Need-returns
 returns c =
     let start = c .before .before .before in
     let a = start .args in
-    made-fresh (a .queues) (a .block) (a .blocks) _ (sym (c .before .before .accepted .ensures) ∙ c .before .if1 .taken) refl
+    made-fresh (a .queues) (a .block) (a .blocks) _ (sym (c .before .before .accepted .ensures) ∙ c .before .if1
+    .taken) refl
     (c .fresh .ensures)
 
 fresh-requires-2 : tie.Need-fresh-requires-2
@@ -25,7 +26,8 @@ returns-2 : tie.Need-returns-2
 returns-2 c =
     let start = c .before .before .before in
     let a = start .args in
-    made-none (a .queues) (a .block) (a .blocks) _ (sym (c .before .before .accepted .ensures) ∙ c .before .if1 .left) refl
+    made-none (a .queues) (a .block) (a .blocks) _ (sym (c .before .before .accepted .ensures) ∙ c .before .if1
+    .left) refl
     (c .fresh2 .ensures)
 
 pub make-spec : {M : Type 1} → statement M

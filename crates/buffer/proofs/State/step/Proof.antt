@@ -1,12 +1,12 @@
 -- `State::step` meets its contract: the state's arrays are advanced in place by one slot.
-use mathlib.Core.Path.{_≡_, refl, ap, sym, _∙_}
+use mathlib.Core.Path.{refl, ap, sym}
 use borrow.Author.Needs.{needs}
 use Rattle.model.specs.Slot.{Call, Answer}
 use Rattle.model.proofs.Calls.{answer-is}
 use Rattle.parts.specs.Calls.{callIn}
 use Rattle.parts.specs.Views.{Long}
 use Rattle.slots.proofs.Standing.{Countable, countable}
-use Rattle.buffer.specs.Says.{arraysOf, answerOf}
+use Rattle.buffer.specs.Says.{arraysOf}
 use Rattle.buffer.proofs.Promises.{step-refused, step-accepted}
 use Rattle.buffer.proofs.State.step.Statement.{statement}
 use Rattle.buffer.proofs.State.step.Tie as tie
@@ -45,8 +45,10 @@ take-counts-requires c κs =
 
 advance-requires : tie.Need-advance-requires
 advance-requires c κs =
-    let s = c .before .before .before .before .before .before .before .before .before .before .before .before .before .before .before .before .before .before .before .before .before .before .before in
-    let t = c .before .before .before .before .before .before .before .before .before .before .before .before .take-counts .ensures in
+    let s = c .before .before .before .before .before .before .before .before .before .before .before .before .before
+    .before .before .before .before .before .before .before .before .before .before in
+    let t = c .before .before .before .before .before .before .before .before .before .before .before .before
+    .take-counts .ensures in
     record {
       long = long s;
       kept = s .pre .0;
@@ -59,7 +61,9 @@ same-length c = search needs
 
 returns : tie.Need-returns
 returns c =
-    let s = c .before .before .before .before .before .before .before .before .before .before .before .before .before .before .before .before .before .before .before .before .before .before .before .before .before .before .before in
+    let s = c .before .before .before .before .before .before .before .before .before .before .before .before .before
+    .before .before .before .before .before .before .before .before .before .before .before .before .before
+    .before in
     let v = c .before .before .before .advance .ensures in
     step-refused (s .args .self) (s .args .store .now) (asked-call s) (s .pre .0) _ _ _
     (ap (λ (b : Answer). b .number) (v .answer-is)) (ap (λ (b : Answer). b .store) (v .answer-is)) (c .if1 .taken)
@@ -70,9 +74,12 @@ same-length-2 c = search needs
 
 returns-2 : tie.Need-returns-2
 returns-2 c =
-    let s = c .before .before .before .before .before .before .before .before .before .before .before .before .before .before .before .before .before .before .before .before .before .before .before .before .before .before .before .before in
+    let s = c .before .before .before .before .before .before .before .before .before .before .before .before .before
+    .before .before .before .before .before .before .before .before .before .before .before .before .before
+    .before .before in
     let v = c .before .before .before .before .advance .ensures in
-    step-accepted (s .args .self) (s .args .store .now) (asked-call s) (s .pre .0) _ _ _ _ _ _ _ v (c .before .if1 .left)
+    step-accepted (s .args .self) (s .args .store .now) (asked-call s) (s .pre .0) _ _ _ _ _ _ _ v (c .before .if1
+    .left)
     (answer-is _ _ (sym (c .before .if1 .left)) refl refl refl refl refl)
 
 pub step-spec : {M : Type 1} → statement M

@@ -26,7 +26,7 @@ idle-kept-requires : tie.Need-idle-kept-requires
 idle-kept-requires c κs = (
   sym (c .before .before .before .before .before .keeps-rules .ensures) ∙ c .before .before .before .before .if1
       .taken,
-  c .before .if2 .taken,
+  omega (arith, c .before .if2 .taken),
 )
 
 same-length : tie.Need-same-length

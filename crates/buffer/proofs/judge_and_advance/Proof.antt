@@ -68,8 +68,11 @@ advance-requires c κs =
           .before .before .before .before .before .before .before .before .before .before .before .before .before
           .before .before .before .before .if1 .taken;
       tallies = record { tails-are = t .0; heads-are = t .1; owed-are = t .2 };
-      store-long = omega (arith, c .before .before .before .before .before .before .before .before .before .before .before .before
-          .before .before .before .before .if2 .taken);
+      store-long = omega (
+        arith,
+        c .before .before .before .before .before .before .before .before .before .before .before .before
+            .before .before .before .before .if2 .taken,
+      );
     }
 
 same-length : tie.Need-same-length

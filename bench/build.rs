@@ -1,19 +1,16 @@
-//! Links the proved library, `../target/staticlib/libdrive.a`. The feature `mock` needs none.
+//! Links the proved library, `../target/staticlib/libdrive.a`.
 
 use std::env;
 use std::path::Path;
 
 fn main() {
     println!("cargo:rerun-if-changed=build.rs");
-    if env::var_os("CARGO_FEATURE_MOCK").is_some() {
-        return;
-    }
     let here = env::var("CARGO_MANIFEST_DIR").expect("cargo names the folder of the package");
     let folder = Path::new(&here).parent().expect("the folder lies in a repository").join("target/staticlib");
     let library = folder.join("libdrive.a");
     println!("cargo:rerun-if-changed={}", library.display());
     if !library.exists() {
-        panic!("{} is not built: run `rt staticlib drive`, or use `--features mock`", library.display());
+        panic!("{} is not built: run `rt staticlib drive`", library.display());
     }
     println!("cargo:rustc-link-search=native={}", folder.display());
     println!("cargo:rustc-link-lib=static=drive");

@@ -7,9 +7,6 @@
 
 use crate::Sizes;
 
-/// Whether the library is only natural Rust in its place.
-pub const MOCK: bool = cfg!(feature = "mock");
-
 /// A way to run a list of slots; false where the sizes are refused.
 pub type Run = fn(Sizes, &[u32], &mut [u64], &mut [u8]) -> bool;
 
@@ -78,7 +75,6 @@ fn drive(drive: Drive, sizes: Sizes, calls: &[u32], answers: &mut [u64], store: 
     refused == 0
 }
 
-#[cfg(not(feature = "mock"))]
 mod raw {
     extern "C" {
         pub fn drive_slots(
@@ -126,54 +122,5 @@ mod raw {
             store_len: usize,
             idle_slots: usize,
         ) -> u8;
-    }
-}
-
-/// A second copy of the natural model, to stand in for the library.
-#[cfg(feature = "mock")]
-#[allow(dead_code, clippy::duplicate_mod)]
-#[path = "natural.rs"]
-mod second;
-
-#[cfg(feature = "mock")]
-mod raw {
-    use std::slice::{from_raw_parts, from_raw_parts_mut};
-
-    use super::{second, Sizes};
-
-    pub use drive_run as drive_slots;
-    pub use drive_run as drive_steps;
-
-    pub unsafe extern "C" fn drive_run(
-        queues: usize,
-        block: usize,
-        blocks: usize,
-        calls: *const u32,
-        calls_len: usize,
-        answers: *mut u64,
-        answers_len: usize,
-        store: *mut u8,
-        store_len: usize,
-    ) -> u8 {
-        drive_idle(queues, block, blocks, calls, calls_len, answers, answers_len, store, store_len, 0)
-    }
-
-    pub unsafe extern "C" fn drive_idle(
-        queues: usize,
-        block: usize,
-        blocks: usize,
-        calls: *const u32,
-        calls_len: usize,
-        answers: *mut u64,
-        answers_len: usize,
-        store: *mut u8,
-        store_len: usize,
-        idle_slots: usize,
-    ) -> u8 {
-        let calls = from_raw_parts(calls, calls_len);
-        let answers = from_raw_parts_mut(answers, answers_len);
-        let store = from_raw_parts_mut(store, store_len);
-        let sizes = Sizes { queues, block, blocks };
-        (!second::run_then_idle(sizes, calls, answers, store, idle_slots)) as u8
     }
 }

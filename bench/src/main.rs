@@ -37,9 +37,6 @@ fn main() {
     }
     let print = |columns: [&str; 7]| println!("{}", line(columns, markdown));
 
-    if library::MOCK {
-        println!("MOCK: natural Rust stands in for the library, and nothing here says how fast that is.\n");
-    }
     print(["Q, b, K", "traffic", "way", "slots", "natural ns", "proved ns", "ratio"]);
     if markdown {
         println!("|---|---|---|--:|--:|--:|--:|");

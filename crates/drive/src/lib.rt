@@ -111,12 +111,12 @@ pub extern "C" fn drive_run(
     ensures { λ r. ⌜ DroveSays queues block blocks (now (calls .entry)) (now (answers .entry)) (now (answers .exit))
         (now (store .entry)) (now (store .exit)) r ⌝ }
 {
-    let made = State::make(queues, block, blocks);
-    let number = made.number;
-    if number != 0 {
+    let fresh = State::make(queues, block, blocks);
+    let refusal = fresh.number;
+    if refusal != 0 {
         return 1;
     }
-    let state = made.state;
+    let state = fresh.state;
     let last = state.run(calls, answers, store);
     0
 }

@@ -1,47 +1,19 @@
--- A run by value keeps its promise: where each slot is refused alike, the answers are one word and nothing changes; and
--- a run in place over the calls that have a place for their answer is the model's own list.
-use mathlib.Core.Path.{_≡_, refl, ap, sym, _∙_, subst}
+-- Many slots by value keep their promise: what their arrays hold in the end is the model's own list, marks included.
+use mathlib.Core.Path.{_≡_, sym}
 use mathlib.Core.Bool.{true}
-use mathlib.Core.List.{List, [], _∷_, _++_, map}
-use mathlib.Core.Option.{none}
-use Prim.Native.Nat.{ℕ, suc, _≤_}
-use native.Mathlib.Nat.{min-le-left, min-le-right}
-use native.Mathlib.Omega.{arith}
-use lib.ListN.{length, take, drop, replicate, length-map}
-use lib.Seq.{length-take-le}
+use mathlib.Core.List.{List}
+use Prim.Native.Nat.{ℕ}
 use Rattle.model.specs.Sizes.{paper}
 use Rattle.model.specs.State.{State, keeps, MarksInRange}
-use Rattle.model.specs.Slot.{Call, Answer, refuse, slot}
-use Rattle.model.specs.Lists.{stepOf, run, lastState, lastStore}
 use Rattle.model.proofs.Rules.{Keeps, keeps-facts}
-use Rattle.words.specs.Words.{callOf, answerWord}
-use Rattle.runs.specs.Says.{wordOf, RunSays}
+use Rattle.parts.specs.declared.Small.{Small}
+use Rattle.parts.specs.Views.{Arrays, stateIn}
+use Rattle.lists.specs.Says as lists
 use Rattle.buffer.specs.declared.State as code
 use Rattle.buffer.specs.Says.{stateOf}
-use Rattle.buffer.specs.Runs.{runLength, callsRun, RanSays}
-use Rattle.buffer.proofs.Promises.{same-but-marks}
-
--- The word of a refusal.
-abbrev pub refusalWord : ℕ → ℕ
-refusalWord n = answerWord n none none none
-
--- A run each of whose slots is refused alike.
-pub record RefusedRun (n : ℕ) (x : State) (store : List ℕ) (calls : List Call) : Type 0 where
-  pub answers-are : map wordOf (run paper x store calls) ≡ replicate (length calls) (refusalWord n)
-  pub same-state : lastState paper x store calls ≡ x
-  pub same-store : lastStore paper x store calls ≡ store
-
-refused-run : (n : ℕ) (x : State) (store : List ℕ) (calls : List Call)
-    → ((call : Call) → slot paper x store call ≡ refuse (suc n) x store) → RefusedRun (suc n) x store calls
-refused-run n x store [] f = record { answers-are = refl; same-state = refl; same-store = refl }
-refused-run n x store (call ∷ calls) f =
-    let r = refused-run n x store calls f in record {
-      answers-are = ap
-          (λ (a : Answer). wordOf (stepOf x store call a) ∷ map wordOf (run paper (a .state) (a .store) calls)) (f call)
-          ∙ ap (λ (l : List ℕ). refusalWord (suc n) ∷ l) (r .answers-are);
-      same-state = ap (λ (a : Answer). lastState paper (a .state) (a .store) calls) (f call) ∙ r .same-state;
-      same-store = ap (λ (a : Answer). lastStore paper (a .state) (a .store) calls) (f call) ∙ r .same-store;
-    }
+use Rattle.buffer.specs.Runs.{RanSays}
+use Rattle.buffer.specs.Idling.{IdledSays}
+use Rattle.buffer.proofs.Promises.{same-but-marks, stateFrom}
 
 -- The marks of a state that keeps the rules.
 marks-in-range : (x : State) → keeps paper x ≡ true → MarksInRange x
@@ -55,58 +27,23 @@ marks-in-range x e = record {
     k : Keeps paper x
     k = keeps-facts paper x e
 
--- The calls that are run: as many as a run takes, each with a place for its answer.
-pub part-long : (calls answers : List ℕ) (n : ℕ) → n ≡ runLength calls answers → length (take n calls) ≡ n
-part-long calls answers n e =
-    length-take-le n calls (omega (arith, e, min-le-left (length calls) (length answers)))
-
-pub part-fits : (calls answers : List ℕ) (n : ℕ) → n ≡ runLength calls answers → length (take n calls) ≤ length answers
-part-fits calls answers n e =
-    omega (arith, e, part-long calls answers n e, min-le-right (length calls) (length answers))
-
-calls-long : (calls answers : List ℕ) → length (callsRun calls answers) ≡ runLength calls answers
-calls-long calls answers =
-    length-map (take (runLength calls answers) calls) callOf
-    ∙ part-long calls answers (runLength calls answers) refl
-
--- A run that answers 3 or 2 throughout.
-pub ran-refused : (s : code.State) (calls answers store : List ℕ) (n count word : ℕ) (answers′ : List ℕ)
-    → ((call : Call) → slot paper (stateOf s) store call ≡ refuse (suc n) (stateOf s) store)
-    → count ≡ runLength calls answers → word ≡ refusalWord (suc n)
-    → answers′ ≡ replicate count word ++ drop count answers
-    → RanSays s calls answers store s answers′ store
-ran-refused s calls answers store n count word answers′ f en ew ea = record {
-  answers-are = ea
-      ∙ ap (λ (k : ℕ). replicate k word ++ drop k answers) en
-      ∙ ap (λ (w : ℕ). replicate (runLength calls answers) w ++ drop (runLength calls answers) answers) ew
-      ∙ ap (λ (k : ℕ). replicate k (refusalWord (suc n)) ++ drop (runLength calls answers) answers)
-      (sym (calls-long calls answers))
-      ∙ ap (λ (l : List ℕ). l ++ drop (runLength calls answers) answers) (sym (r .answers-are));
-  store-is = sym (r .same-store);
-  state-is = same-but-marks (r .same-state);
-  marks-are = marks-in-range (stateOf s);
-  kept = λ e. e;
+pub ran : (s : code.State) (calls answers store : List ℕ) (small : Small) (m : Arrays) (answers′ store′ : List ℕ)
+    → lists.RanSays (stateOf s) calls answers store (stateIn small m) answers′ store′
+    → RanSays s calls answers store (stateFrom small m) answers′ store′
+ran s calls answers store small m answers′ store′ v = record {
+  answers-are = v .answers-are;
+  store-is = v .store-is;
+  state-is = same-but-marks (sym (v .state-is));
+  marks-are = λ e. marks-in-range (stateIn small m) (v .kept e);
+  kept = v .kept;
 }
-  where
-    r : RefusedRun (suc n) (stateOf s) store (callsRun calls answers)
-    r = refused-run n (stateOf s) store (callsRun calls answers) f
 
--- A run in place.
-pub ran-in-place : (s : code.State) (calls answers store : List ℕ) (count : ℕ) (r : code.State)
-    (answers′ store′ : List ℕ) → count ≡ runLength calls answers
-    → RunSays (stateOf s) store (map callOf (take count calls)) answers answers′ (stateOf r) store′
-    → keeps paper (stateOf r) ≡ true → RanSays s calls answers store r answers′ store′
-ran-in-place s calls answers store count r answers′ store′ en v e = record {
-  answers-are = w .answers-are
-      ∙ ap (λ (k : ℕ). map wordOf (run paper (stateOf s) store (callsRun calls answers)) ++ drop k answers)
-      (calls-long calls answers);
-  store-is = w .store-is;
-  state-is = same-but-marks (sym (w .state-is));
-  marks-are = λ k. marks-in-range (stateOf r) e;
-  kept = λ k. e;
+pub idled : (s : code.State) (store : List ℕ) (n : ℕ) (small : Small) (m : Arrays) (store′ : List ℕ)
+    → lists.IdledSays (stateOf s) store n (stateIn small m) store′
+    → IdledSays s store n (stateFrom small m) store′
+idled s store n small m store′ v = record {
+  state-is = same-but-marks (sym (v .state-is));
+  store-is = v .store-is;
+  marks-are = λ e. marks-in-range (stateIn small m) (v .kept e);
+  kept = v .kept;
 }
-  where
-    w : RunSays (stateOf s) store (callsRun calls answers) answers answers′ (stateOf r) store′
-    w =
-        subst (λ (k : ℕ). RunSays (stateOf s) store (map callOf (take k calls)) answers answers′ (stateOf r) store′) en
-        v

@@ -1,8 +1,7 @@
 -- The sign of a difference of two counts: from zero on it is the difference itself, below zero the first count is the
 -- smaller. So the margin says of a queue whether its head bytes are fewer than, as many as or more than its Owed cells.
 use mathlib.Core.Path.{_≡_, ap, sym, _∙_}
-use mathlib.Core.Bool.{Bool, true, false, cond}
-use Prim.Native.Nat.{ℕ, zero, suc, _-_, _≤_, _<_, _^_}
+use Prim.Native.Nat.{ℕ, zero, suc, _-_, _≤_, _<_}
 use native.Mathlib.Omega.{arith}
 use lib.Dec.{ltb}
 use lib.IntN.{ℤ, pos, negsuc, _-ℤ_}
@@ -11,16 +10,6 @@ use borrow.Author.Tests.{ltb-true, ltb-false, lt-ltb, le-ltb}
 use Rattle.model.specs.State.{State, headBytes, owedCells, margin}
 use Rattle.model.proofs.Words.{by-test, true-not-false}
 use Rattle.buffer.specs.Moves.{MarginSays}
-
--- The difference of two counts that fit 16 bits fits 32 bits with a sign.
-mag-of : (t : Bool) (m n k : ℕ) → m < k → n < k → mag (cond t (negsuc m) (pos n)) < k
-mag-of true m n k h g = h
-mag-of false m n k h g = g
-
-pub difference-fits : (h o : ℕ) → h < 65536 → o < 65536 → mag (pos h -ℤ pos o) < 2 ^ 31
-difference-fits h zero f g = omega arith
-difference-fits h (suc o) f g =
-    mag-of (ltb h (suc o)) (suc o - suc h) (h - suc o) (2 ^ 31) (omega arith) (omega arith)
 
 -- At or above zero, and below.
 difference-up : (h o : ℕ) → o ≤ h → pos h -ℤ pos o ≡ pos (h - o)
@@ -50,9 +39,8 @@ above-means-more h o =
     (λ u. lt-ltb 0 (h - o) (omega (arith, ltb-true o h u)) ∙ sym u)
     (λ u. le-ltb 0 (h - o) (omega (arith, ltb-false o h u)) ∙ sym u))
 
-pub margin-says : (x : State) (q : ℕ) (r : ℤ) (h o : ℕ) → r ≡ pos h -ℤ pos o → h ≡ headBytes x q → o ≡ owedCells x q
-    → MarginSays x q r
-margin-says x q r h o e eh eo = record {
+pub margin-says : (x : State) (q : ℕ) (r : ℤ) → r ≡ margin x q → MarginSays x q r
+margin-says x q r value = record {
   value-is = value;
   below-zero = ap (λ (z : ℤ). ltZ z (pos 0)) value;
   at-zero = λ z. zero-means-equal (headBytes x q) (owedCells x q) (sym value ∙ z);
@@ -62,6 +50,3 @@ margin-says x q r h o e eh eo = record {
       ∙ ap pos (omega (arith, s));
   above-zero = ap (ltZ (pos 0)) value ∙ above-means-more (headBytes x q) (owedCells x q);
 }
-  where
-    value : r ≡ margin x q
-    value = e ∙ ap (λ (n : ℕ). pos n -ℤ pos o) eh ∙ ap (λ (n : ℕ). pos (headBytes x q) -ℤ pos n) eo

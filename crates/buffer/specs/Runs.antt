@@ -2,23 +2,15 @@
 use mathlib.Core.Path.{_≡_}
 use mathlib.Core.Bool.{true}
 use mathlib.Core.List.{List, _++_, map}
-use Prim.Native.Nat.{ℕ, min}
-use lib.ListN.{length, take, drop}
+use Prim.Native.Nat.{ℕ}
+use lib.ListN.{drop}
 use Rattle.model.specs.Sizes.{paper}
 use Rattle.model.specs.State.{keeps, SameButMarks, MarksInRange}
-use Rattle.model.specs.Slot.{Call}
 use Rattle.model.specs.Lists.{run, lastState, lastStore}
-use Rattle.words.specs.Words.{callOf}
 use Rattle.runs.specs.Says.{wordOf}
+use Rattle.lists.specs.Says.{runLength, callsRun}
 use Rattle.buffer.specs.declared.State as code
 use Rattle.buffer.specs.Says.{stateOf}
-
--- A run takes as many calls as there are places for their answers.
-abbrev pub runLength : List ℕ → List ℕ → ℕ
-runLength calls answers = min (length calls) (length answers)
-
-abbrev pub callsRun : List ℕ → List ℕ → List Call
-callsRun calls answers = map callOf (take (runLength calls answers) calls)
 
 -- The whole list: an answer for each of its slots, refused ones included, what lies behind them as it was; the store
 -- and the state as the list leaves them. Only the two high marks are free between fill and cache size. What a run

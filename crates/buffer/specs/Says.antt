@@ -9,14 +9,10 @@ use Rattle.model.specs.Sizes.{sizes, paperLimits, accepts, paper}
 use Rattle.model.specs.State.{State, empty, fresh, makingNumber, keeps}
 use Rattle.model.specs.Slot.{Call, Answer}
 use Rattle.model.specs.Lists.{Promised}
-use Rattle.caches.specs.declared.Chosen.the-variants.{Nothing}
 use Rattle.caches.specs.Says.{chosenIn}
 use Rattle.lookahead.specs.Views.{cellOf}
-use Rattle.parts.specs.declared.Small.{Small}
-use Rattle.parts.specs.declared.Delivery.the-variants.{NoDelivery}
 use Rattle.parts.specs.Calls.{deliveryIn}
 use Rattle.parts.specs.Views.{Arrays, arrays, stateIn}
-use Rattle.slots.specs.declared.Advanced.{Advanced}
 use Rattle.buffer.specs.declared.State as code
 use Rattle.buffer.specs.declared.Made.{Made}
 use Rattle.buffer.specs.declared.Slotted.{Slotted}
@@ -66,10 +62,6 @@ answerOf r store = record {
   state = stateOf (r .state);
   store = store;
 }
-
--- A slot in arrays that answers a refusal.
-abbrev pub refusedAt : Small → ℕ → Advanced
-refusedAt small n = record { small = small; number = n; delivery = NoDelivery; written = Nothing; read = Nothing }
 
 -- One slot: the answer, the whole state and the whole store by the paper's slot; only the two high marks are free
 -- between fill and cache size. On a refusal the very record comes back, places past a fill included.

@@ -1,97 +1,7 @@
 // "The margin of a queue is its head bytes less its Owed cells": a signed number, of any state and any queue.
-ghost use mathlib.Core.Path.{_≡_};
-ghost use mathlib.Core.List.{[], _∷_};
-ghost use Prim.Native.Nat.{_+_, _-_, _*_, _≤_, min};
-ghost use lib.ListN.{length};
-ghost use Rattle.model.specs.State.{countOf, owes, owedOf};
-ghost use Rattle.caches.specs.Views.{byteOf, bytesIn};
-ghost use Rattle.lookahead.specs.Views.{cellOf, cellsIn};
 ghost use Rattle.buffer.specs.Says.{stateOf};
 ghost use Rattle.buffer.specs.Moves.{MarginSays};
 use crate::State;
-
-// The smaller of two numbers.
-fn smaller(a: usize, b: usize) -> usize
-    ensures { λ r. ⌜ r ≡ min a b ⌝ }
-{
-    if a < b {
-        return a;
-    }
-    b
-}
-
-// How many of the L = Q(b - 1) + 1 cells an array of 2,017 has, whatever the sizes: the product is taken only where it
-// is small.
-fn cells_within(queues: usize, block: usize) -> usize
-    ensures { λ r. ⌜ r ≡ min (queues * (block - 1) + 1) 2017 ⌝ }
-{
-    if queues == 0 {
-        return 1;
-    }
-    if block <= 1 {
-        return 1;
-    }
-    if 2017 <= queues {
-        return 2017;
-    }
-    if 2017 <= block {
-        return 2017;
-    }
-    smaller(queues * (block - 1) + 1, 2017)
-}
-
-// 1 where an entry is of queue q, else 0.
-fn is_of(entry: u16, q: u16) -> u16
-    ensures { λ r. ⌜ r ≡ countOf q (byteOf entry ∷ []) ⌝ }
-{
-    if entry / 256 == q {
-        return 1;
-    }
-    0
-}
-
-// The bytes of queue q among the first n entries.
-fn count_of(entries: &[u16], n: usize, q: u16) -> u16
-    requires { ⌜ (n ≤ length (now entries)) × (n ≤ 4034) ⌝ }
-    ensures { λ r. ⌜ r ≡ countOf q (bytesIn n (now (entries .entry))) ⌝ }
-{
-    let mut count: u16 = 0;
-    let mut i: usize = 0;
-    while i < n {
-        let entry = entries[i];
-        count = count + is_of(entry, q);
-        i += 1;
-    }
-    count
-}
-
-// 1 where a cell is Owed to queue q, else 0.
-fn is_owed(cell: u32, q: u32) -> u16
-    ensures { λ r. ⌜ r ≡ owes q (cellOf cell) ⌝ }
-{
-    if cell < 131072 {
-        return 0;
-    }
-    if cell / 256 % 256 == q {
-        return 1;
-    }
-    0
-}
-
-// The Owed cells of queue q among the first n cells.
-fn count_owed(cells: &[u32], n: usize, q: u32) -> u16
-    requires { ⌜ (n ≤ length (now cells)) × (n ≤ 2017) ⌝ }
-    ensures { λ r. ⌜ r ≡ owedOf q (cellsIn n (now (cells .entry))) ⌝ }
-{
-    let mut count: u16 = 0;
-    let mut i: usize = 0;
-    while i < n {
-        let cell = cells[i];
-        count = count + is_owed(cell, q);
-        i += 1;
-    }
-    count
-}
 
 impl State {
     // Below zero the queue is critical, at zero its head bytes are just its Owed cells, above zero it has more. Where a
@@ -99,10 +9,13 @@ impl State {
     pub fn margin(self, queue: u8) -> i32
         ensures { λ r. ⌜ MarginSays (stateOf self) queue r ⌝ }
     {
-        let fill = smaller(self.small.head_fill, 4034);
-        let l = cells_within(self.small.queues, self.small.block);
-        let head = count_of(&self.head, fill, queue as u16);
-        let owed = count_owed(&self.cells, l, queue as u32);
-        (head as i32) - (owed as i32)
+        margins::margin(
+            &self.head,
+            &self.cells,
+            self.small.head_fill,
+            self.small.queues,
+            self.small.block,
+            queue,
+        )
     }
 }

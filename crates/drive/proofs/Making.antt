@@ -15,7 +15,8 @@ use Rattle.model.proofs.Rules.{keeps-holds, keeps-fresh}
 use Rattle.runs.specs.Says.{wordOf}
 use Rattle.buffer.specs.declared.State as code
 use Rattle.buffer.specs.declared.Made.{Made}
-use Rattle.buffer.specs.Runs.{runLength, callsRun, RanSays}
+use Rattle.lists.specs.Says.{runLength, callsRun}
+use Rattle.buffer.specs.Runs.{RanSays}
 use Rattle.buffer.specs.Says.{stateOf, MakeSays}
 use Rattle.drive.specs.Says.{DroveSays}
 

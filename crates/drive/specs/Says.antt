@@ -8,7 +8,7 @@ use Rattle.model.specs.Sizes.{sizes, paperLimits, accepts, paper}
 use Rattle.model.specs.State.{fresh}
 use Rattle.model.specs.Lists.{listOf, lastStore}
 use Rattle.runs.specs.Says.{wordOf}
-use Rattle.buffer.specs.Runs.{runLength, callsRun}
+use Rattle.lists.specs.Says.{runLength, callsRun}
 
 pub record DroveSays (q b k : ℕ) (calls answers answers′ store store′ : List ℕ) (r : ℕ) : Type 0 where
   pub refused : accepts paperLimits (sizes q b k) ≡ false → (r ≡ 1) × (answers′ ≡ answers) × (store′ ≡ store)

@@ -58,3 +58,7 @@ pub record AdvanceSays (x : State) (store : List ℕ) (call : Call) (r : Advance
     (tails heads owing store′ : List ℕ) : Type 0 where
   pub answer-is : answerIn r m store′ ≡ slot paper x store call
   pub ready : Ready (r .small) m tails heads owing store′
+
+-- On a refusal the small numbers and the arrays are as they came, places past a fill included.
+abbrev pub AsGiven : Small → Arrays → Advanced → Arrays → Type 0
+AsGiven small m r m′ = (r .number ≡ 0 → ⊥) → (r .small ≡ small) × (m′ ≡ m)

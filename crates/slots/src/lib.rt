@@ -13,7 +13,7 @@ ghost use Rattle.lookahead.specs.Views.{cellsIn};
 ghost use Rattle.lookahead.specs.Says.{TallyOwed};
 ghost use Rattle.parts.specs.Calls.{callIn};
 ghost use Rattle.parts.specs.Views.{arrays, Long, sizesIn, stateIn};
-ghost use Rattle.slots.specs.Says.{Decided, CarrySays, Ready, AdvanceSays};
+ghost use Rattle.slots.specs.Says.{Decided, CarrySays, Ready, AdvanceSays, AsGiven};
 use caches::Chosen;
 use parts::Arrival;
 use parts::Delivery;
@@ -168,7 +168,12 @@ pub fn advance(
         (now (counts .entry))))
         (now (store .entry)) (callIn arrival request) r
         (arrays (now (tail .exit)) (now (head .exit)) (now (cells .exit)) (now (firsts .exit)) (now (counts .exit)))
-        (now (tails .exit)) (now (heads .exit)) (now (owing .exit)) (now (store .exit)) ⌝ }
+        (now (tails .exit)) (now (heads .exit)) (now (owing .exit)) (now (store .exit))
+        × AsGiven small
+        (arrays (now (tail .entry)) (now (head .entry)) (now (cells .entry)) (now (firsts .entry))
+        (now (counts .entry)))
+        r
+        (arrays (now (tail .exit)) (now (head .exit)) (now (cells .exit)) (now (firsts .exit)) (now (counts .exit))) ⌝ }
 {
     let plan = refusals::judge_slot(cells, tails, heads, owing, counts, small, arrival, request);
     let number = plan.number;

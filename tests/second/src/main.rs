@@ -1,28 +1,14 @@
-//! A second program, written from the paper alone, to check the first against.
+//! The second program's commands.
 //!
 //! second [slots]            runs a script from standard input
 //! second sizing R G         prints b, or 11
 //! second cases SEED COUNT   prints random cases of one slot
 //! second lists SEED COUNT   prints random lists of slots
 
-mod breaks;
-mod buffer;
-mod cases;
-mod lines;
-mod lists;
-mod program;
-mod random;
-mod random_state;
-mod raw;
-mod rules;
-mod script;
-mod sizes;
-mod sizing;
-#[cfg(test)]
-mod tests;
-
 use std::io::{self, BufWriter, Read, Write};
 use std::process::ExitCode;
+
+use second::{cases, lists, program, sizing};
 
 fn main() -> ExitCode {
     let arguments: Vec<String> = std::env::args().skip(1).collect();

@@ -70,7 +70,7 @@ returns-2 c =
     ))
     refl refl refl
     (quiet-passed (s .args .small) (memory s) _ _ _ _ (s .pre) (s .args .n) _ _ says)
-    (advanced .advance .ensures)
+    (advanced .advance .ensures .0)
 
 pub rest-spec : {M : Type 1} → statement M
 rest-spec = tie.close (tie.spec pass-quiet-requires returns add-passed advance-requires same-length returns-2)

@@ -30,7 +30,7 @@ returns c =
     .before .before .before .before .before .before .arrival-in .result) (c .before .before .before .before
     .before .before .before .before .before .before .before .before .before .before .request-in .result) (a
     .result) _ _ _ _ _ _
-    (a .ensures) (c .before .before .before .before .before .before .before .before .before .before .before .before
+    (a .ensures .0) (c .before .before .before .before .before .before .before .before .before .before .before .before
     .before .before .before .arrival-in .ensures) (c .before .before .before .before .before .before .before
     .before .before .before .before .before .before .before .request-in .ensures) refl (c .answer-word .ensures)
 

@@ -38,12 +38,14 @@ returns : tie.Need-returns
 returns c =
     let s = c .before .before .before .before .before .before .before .before in
     let says = c .before .judge-slot .ensures in
-    let number = deciding.number-is (s .args .small) (memory s) _ _ _ _ (s .pre) (asked-call s) _ says in
-    record {
-      answer-is = standing.refused-slot (s .args .small) (memory s) _ _ _ _ (s .pre) (asked-call s) _ (c .if1 .taken)
-          number;
-      ready = s .pre;
-    }
+    let number = deciding.number-is (s .args .small) (memory s) _ _ _ _ (s .pre) (asked-call s) _ says in (
+      record {
+        answer-is = standing.refused-slot (s .args .small) (memory s) _ _ _ _ (s .pre) (asked-call s) _ (c .if1 .taken)
+            number;
+        ready = s .pre;
+      },
+      λ f. (refl, refl),
+    )
 
 element-copy-out-cell : tie.Need-element-copy-out-cell
 element-copy-out-cell c = search needs
@@ -96,14 +98,17 @@ returns-2 c =
     let turned = c .before .before .before .before .before .before .before .before .before .before .turn .ensures in
     let carried = c .before .before .before .carry .ensures in
     let accepted = deciding.accepted (s .args .small) (memory s) _ _ _ _ (s .pre) (asked-call s) _ says none in
-    let all = deciding.decided (s .args .small) (memory s) _ _ _ _ (s .pre) (asked-call s) _ says none _ _ _ _ turned in
-    record {
-      answer-is = standing.accepted-slot (s .args .small) (memory s) _ _ _ _ (s .pre) (asked-call s) accepted _ _ _ _
-          carried refl (carried .delivery-is) (all .written-is) (all .read-is) refl refl;
-      ready = standing.carried-ready (s .args .small) (memory s) _ _ _ _ (s .pre) (asked-call s) accepted _ _ _ _ _ _
-          carried
-          (deciding.counted (s .args .small) (memory s) _ _ _ _ (s .pre) (asked-call s) _ says none _ _ _ _ turned);
-    }
+    let all = deciding.decided (s .args .small) (memory s) _ _ _ _ (s .pre) (asked-call s) _ says none _ _ _ _ turned
+    in (
+      record {
+        answer-is = standing.accepted-slot (s .args .small) (memory s) _ _ _ _ (s .pre) (asked-call s) accepted _ _ _ _
+            carried refl (carried .delivery-is) (all .written-is) (all .read-is) refl refl;
+        ready = standing.carried-ready (s .args .small) (memory s) _ _ _ _ (s .pre) (asked-call s) accepted _ _ _ _ _ _
+            carried
+            (deciding.counted (s .args .small) (memory s) _ _ _ _ (s .pre) (asked-call s) _ says none _ _ _ _ turned);
+      },
+      λ f. absurd (f refl),
+    )
 
 pub advance-spec : {M : Type 1} → statement M
 advance-spec =

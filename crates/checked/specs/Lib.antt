@@ -1,0 +1,2 @@
+-- One slot on lent arrays, whatever they hold.
+pub mod Says

@@ -1,0 +1,2 @@
+-- What the pieces of reading and writing promise.
+pub mod Says

@@ -1,0 +1,142 @@
+-- Judging is the reader iterated: the script from an offset on is what `goOn` makes of the next reading, with no
+-- count of steps. A command that is taken has a byte or more and no more than there are, so that what is left is
+-- shorter each time, and any count of steps above the length answers the same.
+use mathlib.Core.Path.{_≡_, refl, ap, sym, _∙_}
+use mathlib.Core.Bool.{Bool, true, false}
+use mathlib.Core.List.{List, [], _∷_}
+use mathlib.Core.Option.{Option, some, none}
+use Prim.Native.Nat.{ℕ, zero, suc, _+_, _<_, _≤_}
+use native.Mathlib.Omega.{arith}
+use lib.Dec.{ltb}
+use lib.ListN.{length, drop, length-drop}
+use borrow.Author.Tests.{ltb-true, ltb-false, lt-ltb, le-ltb}
+use Rattle.model.specs.Words.{choose}
+use Rattle.model.proofs.Words.{by-test}
+use Rattle.commands.specs.Commands.{Kind, Command, command, row, isEnd, kindOf, widths, operandsIn}
+use Rattle.commands.specs.Scripts.{Reading, refused, taken, outOfPlace, readKnown, readCode, readCommand, Script}
+use Rattle.commands.specs.Scripts.{afterEnd, withCommand, goOn, judgeWithin, judgeFrom, judge}
+
+-- A refusal is no command, and what is taken is one command of one length.
+pub refused-not-taken : (number : ℕ) (c : Command) (n : ℕ) → refused number ≡ taken c n → ⊥
+refused-not-taken number c n e = let z : _≡_ {A = ℕ} 0 1 = cc in omega arith
+
+pub taken-same-command : (c d : Command) (n m : ℕ) → taken c n ≡ taken d m → c ≡ d
+taken-same-command c d n m e = cc
+
+pub taken-same-length : (c d : Command) (n m : ℕ) → taken c n ≡ taken d m → n ≡ m
+taken-same-length c d n m e = cc
+
+-- The reader's answers, in the order of judging: no byte, an unknown one, a command out of its place, one cut short,
+-- one taken.
+pub reads-nothing : (first : Bool) → readCommand first [] ≡ refused 15
+reads-nothing first = refl
+
+pub reads-unknown : (first : Bool) (bytes : List ℕ) → readCode first none bytes ≡ refused 12
+reads-unknown first bytes = refl
+
+pub reads-out-of-place : (first : Bool) (k : Kind) (bytes : List ℕ) → outOfPlace first k ≡ true
+    → readKnown first k bytes ≡ refused 14
+reads-out-of-place first k bytes t = rw t
+
+pub reads-cut-short : (first : Bool) (k : Kind) (bytes : List ℕ) → outOfPlace first k ≡ false
+    → length bytes < widths (row k .operands) → readKnown first k bytes ≡ refused 13
+reads-cut-short first k bytes t h = rw (t, lt-ltb (length bytes) (widths (row k .operands)) h)
+
+pub reads-taken : (first : Bool) (k : Kind) (bytes : List ℕ) → outOfPlace first k ≡ false
+    → widths (row k .operands) ≤ length bytes
+    → readKnown first k bytes
+    ≡ taken (command k (operandsIn (row k .operands) bytes)) (1 + widths (row k .operands))
+reads-taken first k bytes t h = rw (t, le-ltb (length bytes) (widths (row k .operands)) h)
+
+-- A command that is taken has a byte or more, and at most as many as there are.
+known-length : (first : Bool) (k : Kind) (bytes : List ℕ) (c : Command) (n : ℕ)
+    → readKnown first k bytes ≡ taken c n → (1 ≤ n) × (n ≤ suc (length bytes))
+known-length first k bytes c n e =
+    by-test (outOfPlace first k)
+    (λ t. absurd (refused-not-taken 14 c n (sym (reads-out-of-place first k bytes t) ∙ e)))
+    (λ t. by-test (ltb (length bytes) (widths (row k .operands)))
+    (λ u.
+    let short = ltb-true (length bytes) (widths (row k .operands)) u in
+    absurd (refused-not-taken 13 c n (sym (reads-cut-short first k bytes t short) ∙ e)))
+    (λ u.
+    let long = ltb-false (length bytes) (widths (row k .operands)) u in
+    let is-n = taken-same-length _ c _ n (sym (reads-taken first k bytes t long) ∙ e) in
+    (omega (arith, is-n), omega (arith, is-n, long))))
+
+code-length : (first : Bool) (found : Option Kind) (bytes : List ℕ) (c : Command) (n : ℕ)
+    → readCode first found bytes ≡ taken c n → (1 ≤ n) × (n ≤ suc (length bytes))
+code-length first none bytes c n e = absurd (refused-not-taken 12 c n (sym (reads-unknown first bytes) ∙ e))
+code-length first (some k) bytes c n e = known-length first k bytes c n e
+
+pub taken-length : (first : Bool) (bytes : List ℕ) (c : Command) (n : ℕ)
+    → readCommand first bytes ≡ taken c n → (1 ≤ n) × (n ≤ length bytes)
+taken-length first [] c n e = absurd (refused-not-taken 15 c n (sym (reads-nothing first) ∙ e))
+taken-length first (code ∷ bytes) c n e = code-length first (kindOf code) bytes c n e
+
+-- What comes of a reading asks of the rest only what it is after a command that was taken.
+pub go-on-alike : (r : Reading) (offset : ℕ) (bytes : List ℕ) (rest other : ℕ → Script)
+    → ((c : Command) (n : ℕ) → r ≡ taken c n → rest n ≡ other n)
+    → goOn r offset bytes rest ≡ goOn r offset bytes other
+go-on-alike (refused number) offset bytes rest other same = refl
+go-on-alike (taken c n) offset bytes rest other same =
+    ap (λ (s : Script). withCommand c (choose (isEnd (c .kind)) (afterEnd (offset + n) (drop n bytes)) s))
+    (same c n refl)
+
+-- Any two counts of steps above the length answer the same.
+pub steps-enough : (steps more : ℕ) (first : Bool) (offset : ℕ) (bytes : List ℕ)
+    → length bytes < steps → length bytes < more
+    → judgeWithin steps first offset bytes ≡ judgeWithin more first offset bytes
+steps-enough zero more first offset bytes h k = absurd (omega arith)
+steps-enough (suc steps) zero first offset bytes h k = absurd (omega arith)
+steps-enough (suc steps) (suc more) first offset bytes h k =
+    go-on-alike (readCommand first bytes) offset bytes _ _ (λ c n e.
+    let long = taken-length first bytes c n e in
+    let left = length-drop n bytes in
+    steps-enough steps more false (offset + n) (drop n bytes)
+    (omega (arith, h, left, long .0, long .1))
+    (omega (arith, k, left, long .0, long .1)))
+
+-- The script from an offset on, by the reading there and the script after it.
+pub judge-is-reading : (first : Bool) (offset : ℕ) (bytes : List ℕ)
+    → judgeFrom first offset bytes
+    ≡ goOn (readCommand first bytes) offset bytes (λ n. judgeFrom false (offset + n) (drop n bytes))
+unfolding judgeFrom
+judge-is-reading first offset bytes =
+    go-on-alike (readCommand first bytes) offset bytes _ _ (λ c n e.
+    let long = taken-length first bytes c n e in
+    let left = length-drop n bytes in
+    steps-enough (length bytes) (suc (length (drop n bytes))) false (offset + n) (drop n bytes)
+    (omega (arith, left, long .0, long .1))
+    (omega arith))
+
+-- The same by cases: the reader refuses, the command is the end, the script goes on.
+pub judged-refused : (first : Bool) (offset : ℕ) (bytes : List ℕ) (number : ℕ)
+    → readCommand first bytes ≡ refused number
+    → judgeFrom first offset bytes ≡ record { commands = []; number = number; offset = offset }
+judged-refused first offset bytes number e =
+    judge-is-reading first offset bytes
+    ∙ ap (λ (r : Reading). goOn r offset bytes (λ n. judgeFrom false (offset + n) (drop n bytes))) e
+
+judged-taken : (first : Bool) (offset : ℕ) (bytes : List ℕ) (c : Command) (n : ℕ)
+    → readCommand first bytes ≡ taken c n
+    → judgeFrom first offset bytes
+    ≡ withCommand c (choose (isEnd (c .kind)) (afterEnd (offset + n) (drop n bytes))
+    (judgeFrom false (offset + n) (drop n bytes)))
+judged-taken first offset bytes c n e =
+    judge-is-reading first offset bytes
+    ∙ ap (λ (r : Reading). goOn r offset bytes (λ n. judgeFrom false (offset + n) (drop n bytes))) e
+
+pub judged-end : (first : Bool) (offset : ℕ) (bytes : List ℕ) (c : Command) (n : ℕ)
+    → readCommand first bytes ≡ taken c n → isEnd (c .kind) ≡ true
+    → judgeFrom first offset bytes ≡ withCommand c (afterEnd (offset + n) (drop n bytes))
+judged-end first offset bytes c n e t = judged-taken first offset bytes c n e ∙ rw t
+
+pub judged-on : (first : Bool) (offset : ℕ) (bytes : List ℕ) (c : Command) (n : ℕ)
+    → readCommand first bytes ≡ taken c n → isEnd (c .kind) ≡ false
+    → judgeFrom first offset bytes ≡ withCommand c (judgeFrom false (offset + n) (drop n bytes))
+judged-on first offset bytes c n e t = judged-taken first offset bytes c n e ∙ rw t
+
+-- A whole script is judged from its start.
+pub judged-from-start : (script : List ℕ) → judge script ≡ judgeFrom true 0 script
+unfolding judge
+judged-from-start script = refl

@@ -1,0 +1,2 @@
+-- Many slots on lent arrays, whatever they hold.
+pub mod Says

@@ -1,0 +1,2 @@
+-- What a script prints and leaves.
+pub mod Run

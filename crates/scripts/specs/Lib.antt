@@ -1,0 +1,3 @@
+-- What reading, judging and writing promise, and that what is written reads back.
+pub mod Says
+pub mod Back

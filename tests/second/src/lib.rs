@@ -1,0 +1,17 @@
+//! A second program, written from the paper alone, to check the first against.
+
+mod breaks;
+mod buffer;
+pub mod cases;
+mod lines;
+pub mod lists;
+pub mod program;
+pub mod random;
+mod random_state;
+mod raw;
+mod rules;
+pub mod script;
+pub mod sizes;
+pub mod sizing;
+#[cfg(test)]
+mod tests;

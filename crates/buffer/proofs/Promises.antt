@@ -18,7 +18,7 @@ use Rattle.model.proofs.Kept.{Kept, slot-kept}
 use Rattle.model.proofs.Calls.{slot-promised}
 use Rattle.parts.specs.declared.Small.{Small}
 use Rattle.parts.specs.Views.{Arrays}
-use Rattle.slots.specs.declared.Advanced.{Advanced}
+use Rattle.slot.specs.declared.Advanced.{Advanced}
 use Rattle.checked.specs.Says as checked
 use Rattle.buffer.specs.declared.State as code
 use Rattle.buffer.specs.declared.Slotted.{Slotted}

@@ -16,9 +16,9 @@ use Rattle.lookahead.specs.Views.{cellsIn}
 use Rattle.lookahead.specs.Says.{TallyOwed}
 use Rattle.parts.specs.declared.Small.{Small}
 use Rattle.parts.specs.Views.{Arrays, Long, sizesIn, stateIn}
-use Rattle.slots.specs.declared.Advanced.{Advanced}
-use Rattle.slots.specs.Says.{Ready, answerIn, AdvanceSays, AsGiven}
-use Rattle.slots.proofs.Standing.{Countable, countable}
+use Rattle.slot.specs.declared.Advanced.{Advanced}
+use Rattle.slot.specs.Says.{Ready, answerIn, AdvanceSays, AsGiven}
+use Rattle.slot.proofs.Standing.{Countable, countable}
 use Rattle.checked.specs.Says.{JudgeSays, refusedAt, Cleared, SlotSays}
 
 module _ (small : Small) (m : Arrays) (store : List ℕ) where

@@ -11,8 +11,8 @@ use Rattle.caches.specs.declared.Chosen.the-variants.{Nothing}
 use Rattle.parts.specs.declared.Small.{Small}
 use Rattle.parts.specs.declared.Delivery.the-variants.{NoDelivery}
 use Rattle.parts.specs.Views.{Arrays, Long, sizesIn, stateIn}
-use Rattle.slots.specs.declared.Advanced.{Advanced}
-use Rattle.slots.specs.Says.{answerIn, AsGiven}
+use Rattle.slot.specs.declared.Advanced.{Advanced}
+use Rattle.slot.specs.Says.{answerIn, AsGiven}
 
 -- 3 and 2 go by the state and the number of the store's bytes alone: 0, or the number that every slot answers.
 pub record JudgeSays (x : State) (bytes r : ℕ) : Type 0 where

@@ -8,7 +8,7 @@ use parts::Arrival;
 use parts::Delivery;
 use parts::Request;
 use parts::Small;
-use slots::Advanced;
+use slot::Advanced;
 
 // 3 and 2, in this order: 0, or the number that every slot answers.
 pub fn judge<'a>(
@@ -68,11 +68,11 @@ pub fn step(
         (arrays (now (tail .exit)) (now (head .exit)) (now (cells .exit)) (now (firsts .exit)) (now (counts .exit)))
         (now (store .exit)) ⌝ }
 {
-    let taken = slots::take_counts(tail, head, cells, small);
+    let taken = slot::take_counts(tail, head, cells, small);
     let mut tails = taken.tails;
     let mut heads = taken.heads;
     let mut owing = taken.owing;
-    slots::advance(
+    slot::advance(
         tail,
         head,
         cells,

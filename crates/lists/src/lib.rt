@@ -62,7 +62,7 @@ fn run_kept(
         × (keeps paper (stateIn r (arrays (now (tail .exit)) (now (head .exit)) (now (cells .exit)) (now (firsts .exit))
         (now (counts .exit)))) ≡ true) ⌝ }
 {
-    let taken = slots::take_counts(tail, head, cells, small);
+    let taken = slot::take_counts(tail, head, cells, small);
     let mut tails = taken.tails;
     let mut heads = taken.heads;
     let mut owing = taken.owing;
@@ -148,7 +148,7 @@ fn idle_kept(
         (now (counts .exit))))
         (now (store .exit)) ⌝ }
 {
-    let taken = slots::take_counts(tail, head, cells, small);
+    let taken = slot::take_counts(tail, head, cells, small);
     let mut tails = taken.tails;
     let mut heads = taken.heads;
     let mut owing = taken.owing;

@@ -18,7 +18,7 @@ use Rattle.parts.specs.declared.Small.{Small}
 use Rattle.parts.specs.Views.{Arrays, sizesIn, stateIn}
 use Rattle.parts.specs.Figures.{Tallies}
 use Rattle.parts.proofs.Ranges.{in-limits}
-use Rattle.slots.specs.Says.{Ready}
+use Rattle.slot.specs.Says.{Ready}
 use Rattle.idle.proofs.Leading.{leading-fits}
 use Rattle.idle.proofs.Passing.{withPhase, withCells, passed-by-turn, tallies-turned, passed-by-shift, tallies-shifted}
 use Rattle.pass.specs.declared.Stretch.{Stretch}

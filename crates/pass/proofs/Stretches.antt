@@ -18,8 +18,8 @@ use Rattle.model.proofs.Idle.{PassedQuietly, last-append, last-store-append, ru
 use Rattle.parts.specs.declared.Small.{Small}
 use Rattle.parts.specs.Calls.{deliveryIn}
 use Rattle.parts.specs.Views.{Arrays, stateIn}
-use Rattle.slots.specs.declared.Advanced.{Advanced}
-use Rattle.slots.specs.Says.{Ready, AdvanceSays}
+use Rattle.slot.specs.declared.Advanced.{Advanced}
+use Rattle.slot.specs.Says.{Ready, AdvanceSays}
 use Rattle.pass.specs.declared.Rested.{Rested}
 use Rattle.pass.specs.Says.{lastAnswer, RestSays, IdleSays}
 

@@ -14,7 +14,7 @@ use Rattle.lookahead.specs.Views.{cellsIn}
 use Rattle.parts.specs.declared.Small.{Small}
 use Rattle.parts.specs.Calls.{deliveryIn}
 use Rattle.parts.specs.Views.{Arrays, sizesIn, stateIn}
-use Rattle.slots.specs.Says.{Ready}
+use Rattle.slot.specs.Says.{Ready}
 use Rattle.idle.specs.Says.{ShiftedBy}
 use Rattle.pass.specs.declared.Stretch.{Stretch}
 use Rattle.pass.specs.declared.Rested.{Rested}

@@ -9,7 +9,7 @@ ghost use Rattle.model.specs.Sizes.{paperLimits, accepts, lookahead};
 ghost use Rattle.model.specs.State.{cellBelow};
 ghost use Rattle.lookahead.specs.Views.{cellsIn};
 ghost use Rattle.parts.specs.Views.{arrays, sizesIn, stateIn};
-ghost use Rattle.slots.specs.Says.{Ready};
+ghost use Rattle.slot.specs.Says.{Ready};
 ghost use Rattle.pass.specs.Says.{StretchSays, RestSays, IdleSays};
 use parts::Arrival;
 use parts::Delivery;
@@ -107,7 +107,7 @@ pub fn rest(
         };
     }
     let passed = count + 1;
-    let slot = slots::advance(
+    let slot = slot::advance(
         tail,
         head,
         cells,

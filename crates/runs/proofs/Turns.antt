@@ -21,8 +21,8 @@ use Rattle.parts.specs.declared.Arrival.{Arrival}
 use Rattle.parts.specs.declared.Request.{Request}
 use Rattle.parts.specs.Calls.{arrivalIn, requestIn, deliveryIn, callIn}
 use Rattle.parts.specs.Views.{Arrays, stateIn}
-use Rattle.slots.specs.declared.Advanced.{Advanced}
-use Rattle.slots.specs.Says.{Ready, answerIn, AdvanceSays}
+use Rattle.slot.specs.declared.Advanced.{Advanced}
+use Rattle.slot.specs.Says.{Ready, answerIn, AdvanceSays}
 use Rattle.words.specs.Words.{callOf, answerWord}
 use Rattle.runs.specs.declared.Called.{Called}
 use Rattle.runs.specs.Says.{wordOf, CalledSays, RunSays}

@@ -8,7 +8,7 @@ use Rattle.model.specs.State.{State}
 use Rattle.model.specs.Slot.{Call, slot}
 use Rattle.model.specs.Lists.{Step, run, lastState, lastStore}
 use Rattle.parts.specs.Views.{Arrays, stateIn}
-use Rattle.slots.specs.Says.{Ready}
+use Rattle.slot.specs.Says.{Ready}
 use Rattle.words.specs.Words.{answerWord}
 use Rattle.runs.specs.declared.Called.{Called}
 

@@ -4,7 +4,7 @@ ghost use mathlib.Core.List.{map};
 ghost use Prim.Native.Nat.{_≤_};
 ghost use lib.ListN.{length};
 ghost use Rattle.parts.specs.Views.{arrays, stateIn};
-ghost use Rattle.slots.specs.Says.{Ready};
+ghost use Rattle.slot.specs.Says.{Ready};
 ghost use Rattle.words.specs.Words.{callOf};
 ghost use Rattle.runs.specs.Says.{CalledSays, RunSays};
 use parts::Small;
@@ -40,7 +40,7 @@ pub fn answer_call(
 {
     let arrival = words::arrival_in(call);
     let request = words::request_in(call);
-    let a = slots::advance(
+    let a = slot::advance(
         tail,
         head,
         cells,

@@ -3,7 +3,7 @@ use mathlib.Core.Path.{refl}
 use native.Mathlib.Omega.{arith}
 use borrow.Author.Needs.{needs}
 use Rattle.parts.specs.Views.{Arrays, arrays, stateIn}
-use Rattle.slots.proofs.Standing as standing
+use Rattle.slot.proofs.Standing as standing
 use Rattle.pass.proofs.Passing.{quiet-passed, quiet-ready, quiet-most}
 use Rattle.pass.proofs.Stretches.{rest-quiet, rest-once-more}
 use Rattle.pass.proofs.rest.Statement.{statement}

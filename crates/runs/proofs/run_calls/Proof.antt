@@ -7,7 +7,7 @@ use native.Mathlib.Omega.{arith}
 use borrow.Author.Needs.{needs}
 use lib.ListN.{length, length-map, length-set, getD}
 use Rattle.parts.specs.Views.{arrays, stateIn}
-use Rattle.slots.specs.Says.{Ready}
+use Rattle.slot.specs.Says.{Ready}
 use Rattle.words.specs.Words.{callOf}
 use Rattle.runs.proofs.Turns.{RunTo, run-starts, run-turn, run-ends, call-at, store-kept}
 use Rattle.runs.proofs.run_calls.Statement.{statement}

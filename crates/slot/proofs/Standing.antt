@@ -31,8 +31,8 @@ use Rattle.parts.specs.Figures.{Figures, figuresOf, blocksIn, figuresIn, Tallie
 use Rattle.parts.proofs.Fits.{tail-below-array, head-below-array, fill-within}
 use Rattle.parts.proofs.Ranges.{InLimits, in-limits}
 use Rattle.parts.proofs.Rings.{ring-at, ring-past}
-use Rattle.slots.specs.declared.Carried.{Carried}
-use Rattle.slots.specs.Says.{CarrySays, Ready}
+use Rattle.slot.specs.declared.Carried.{Carried}
+use Rattle.slot.specs.Says.{CarrySays, Ready}
 
 -- Cells below one bound are below a greater one.
 cells-below-more : (n k : ℕ) (cells : List Cell) → n ≤ k → CellsBelow n cells → CellsBelow k cells

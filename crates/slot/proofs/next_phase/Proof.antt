@@ -3,8 +3,8 @@ use Prim.Native.Nat.{_-_}
 use native.Mathlib.Omega.{arith}
 use borrow.Author.Needs.{needs}
 use borrow.Author.Tests.{eq-eqb, ne-eqb}
-use Rattle.slots.proofs.next_phase.Statement.{statement}
-use Rattle.slots.proofs.next_phase.Tie as tie
+use Rattle.slot.proofs.next_phase.Statement.{statement}
+use Rattle.slot.proofs.next_phase.Tie as tie
 
 add-if1 : tie.Need-add-if1
 add-if1 c = search needs

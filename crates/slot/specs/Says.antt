@@ -14,8 +14,8 @@ use Rattle.parts.specs.declared.Small.{Small}
 use Rattle.parts.specs.Calls.{deliveryIn}
 use Rattle.parts.specs.Views.{Arrays, Long, stateIn, sizesIn}
 use Rattle.parts.specs.Figures.{Tallies}
-use Rattle.slots.specs.declared.Carried.{Carried}
-use Rattle.slots.specs.declared.Advanced.{Advanced}
+use Rattle.slot.specs.declared.Carried.{Carried}
+use Rattle.slot.specs.declared.Advanced.{Advanced}
 
 -- What is decided before anything moves: the slot is accepted, whether its request takes an Owed cell, the queues that
 -- it writes and reads.

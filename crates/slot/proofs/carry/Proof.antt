@@ -8,10 +8,10 @@ use Rattle.model.specs.Slot.{Call}
 use Rattle.caches.proofs.Entries.{bytes-length}
 use Rattle.parts.specs.Calls.{callIn}
 use Rattle.parts.specs.Views.{Arrays, arrays}
-use Rattle.slots.proofs.Compose.{delivered, store-1, head-2, state-after}
-use Rattle.slots.proofs.Asks as asks
-use Rattle.slots.proofs.carry.Statement.{statement}
-use Rattle.slots.proofs.carry.Tie as tie
+use Rattle.slot.proofs.Compose.{delivered, store-1, head-2, state-after}
+use Rattle.slot.proofs.Asks as asks
+use Rattle.slot.proofs.carry.Statement.{statement}
+use Rattle.slot.proofs.carry.Tie as tie
 
 -- The arrays and the call as they were handed in.
 abbrev memory : tie.Start → Arrays

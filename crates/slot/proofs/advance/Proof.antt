@@ -5,10 +5,10 @@ use borrow.Author.Needs.{needs}
 use Rattle.model.specs.Slot.{Call}
 use Rattle.parts.specs.Calls.{callIn}
 use Rattle.parts.specs.Views.{Arrays, arrays}
-use Rattle.slots.proofs.Standing as standing
-use Rattle.slots.proofs.Deciding as deciding
-use Rattle.slots.proofs.advance.Statement.{statement}
-use Rattle.slots.proofs.advance.Tie as tie
+use Rattle.slot.proofs.Standing as standing
+use Rattle.slot.proofs.Deciding as deciding
+use Rattle.slot.proofs.advance.Statement.{statement}
+use Rattle.slot.proofs.advance.Tie as tie
 
 -- The arrays and the call as they were handed in.
 abbrev memory : tie.Start → Arrays

@@ -32,8 +32,8 @@ use Rattle.steps.specs.declared.Gave.{Gave}
 use Rattle.steps.specs.declared.Asked.{Asked}
 use Rattle.steps.specs.Says.{DeliverSays, ArriveSays, AskSays, WriteSays}
 use Rattle.steps.proofs.Moving.{oldest-cell}
-use Rattle.slots.specs.Says.{Decided}
-use Rattle.slots.proofs.Compose.{accepted, judged, head-1, tail-2, rings-1, store-1}
+use Rattle.slot.specs.Says.{Decided}
+use Rattle.slot.proofs.Compose.{accepted, judged, head-1, tail-2, rings-1, store-1}
 
 -- A leaving Owed cell has a head byte of its queue.
 pub uncovered-owed : (c : Cell) (y : State) (q : ℕ) → leavesUncovered c y ≡ false → c ≡ owed q → 1 ≤ headBytes y q

@@ -25,7 +25,7 @@ use Rattle.steps.specs.declared.Asked.{Asked}
 use Rattle.steps.specs.Says.{DeliverSays, ArriveSays, cellAsked, tailAsked, AskSays, moving, WriteSays, ReadSays}
 use Rattle.steps.proofs.Moving.{moving-tail, moving-rings, moving-store, moving-head, moving-read, asked-cell}
 use Rattle.steps.proofs.Moving.{asked-tail}
-use Rattle.slots.specs.Says.{Decided}
+use Rattle.slot.specs.Says.{Decided}
 
 module _ (small : Small) (m : Arrays) (store : List ℕ) (call : Call) (isOwed′ : Bool) (written readQueue : Option ℕ)
     (long : Long m) (d : Decided (stateIn small m) store call isOwed′ written readQueue) where

@@ -31,9 +31,9 @@ use Rattle.refusals.specs.declared.Plan.{Plan}
 use Rattle.refusals.specs.Says.{PlanSays}
 use Rattle.refusals.proofs.PaperPlan.{plan-refusal, plan-owes, plan-read}
 use Rattle.steps.proofs.Moving.{oldest-cell}
-use Rattle.slots.specs.Says.{Decided, Ready}
-use Rattle.slots.proofs.Asks.{uncovered-owed}
-use Rattle.slots.proofs.Standing as standing
+use Rattle.slot.specs.Says.{Decided, Ready}
+use Rattle.slot.proofs.Asks.{uncovered-owed}
+use Rattle.slot.proofs.Standing as standing
 
 module _ (small : Small) (m : Arrays) (tails heads owing store : List ℕ) (r : Ready small m tails heads owing store)
     (call : Call) where

@@ -13,7 +13,7 @@ ghost use Rattle.lookahead.specs.Views.{cellsIn};
 ghost use Rattle.lookahead.specs.Says.{TallyOwed};
 ghost use Rattle.parts.specs.Calls.{callIn};
 ghost use Rattle.parts.specs.Views.{arrays, Long, sizesIn, stateIn};
-ghost use Rattle.slots.specs.Says.{Decided, CarrySays, Ready, AdvanceSays, AsGiven};
+ghost use Rattle.slot.specs.Says.{Decided, CarrySays, Ready, AdvanceSays, AsGiven};
 use caches::Chosen;
 use parts::Arrival;
 use parts::Delivery;

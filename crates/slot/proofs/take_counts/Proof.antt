@@ -2,8 +2,8 @@
 use native.Mathlib.Omega.{arith}
 use borrow.Author.Needs.{needs}
 use Rattle.parts.proofs.Ranges.{in-limits}
-use Rattle.slots.proofs.take_counts.Statement.{statement}
-use Rattle.slots.proofs.take_counts.Tie as tie
+use Rattle.slot.proofs.take_counts.Statement.{statement}
+use Rattle.slot.proofs.take_counts.Tie as tie
 
 tally-requires : tie.Need-tally-requires
 tally-requires c κs = search needs

@@ -1,11 +1,13 @@
 -- A loop that closes entries up over place p: what it keeps, and that the bytes are then those without the oldest.
 use mathlib.Core.Path.{_≡_, refl, ap, sym, _∙_}
 use mathlib.Core.List.{List, _∷_, [], _++_, append-assoc, append-nil}
-use Prim.Native.Nat.{ℕ, _+_, _%_, _≤_, _<_}
+use Prim.Native.Nat.{ℕ, _+_, _-_, _%_, _≤_, _<_}
 use native.Mathlib.Numerals.{add-one}
 use native.Mathlib.Omega.{arith}
 use lib.ListN.{length, take, drop, set, getD, length-set, drop-of-length-le}
+use lib.ListN.{length-append, length-drop}
 use lib.Seq.{length-take-le, drop-append-le, getD-set-other}
+use lib.Seq.{take-add, take-length, take-append-le, take-append-add, drop-append-add}
 use Rattle.model.specs.State.{countOf}
 use Rattle.caches.specs.Views.{byteOf, bytesIn}
 use Rattle.caches.specs.Says.{placeOf, ClosedUp, TookOldest}
@@ -47,6 +49,46 @@ module _ (p i : ℕ) (before after : List ℕ) (l : p ≤ i) (h : i + 1 < length
     rest = λ k m.
         getD-set-other after i k (getD after (i + 1) 0) 0 (λ e. omega (arith, e, m)) ∙ c .rest k (omega arith);
     long = length-set after i (getD after (i + 1) 0) ∙ c .long;
+  }
+
+-- A part of the entries, k from place p on, that has closed up over its first is the whole that has closed up over
+-- place p.
+module _ (p k : ℕ) (before ys : List ℕ) (h : p + k ≤ length before) (some-there : 1 ≤ k)
+    (c : ClosedUp 0 (length (take k (drop p before))) (take k (drop p before)) ys) where
+  abbrev front : List ℕ
+  front = take p before
+
+  abbrev part : List ℕ
+  part = take k (drop p before)
+
+  abbrev whole : List ℕ
+  whole = front ++ (ys ++ drop k (drop p before))
+
+  front-long : length front ≡ p
+  front-long = length-take-le p before (omega arith)
+
+  part-long : length part ≡ k
+  part-long = length-take-le k (drop p before) (simp length-drop (omega arith))
+
+  part-closed : take (k - 1) ys ≡ drop 1 part
+  part-closed = rw (take-length part, part-long) at (c .closed)
+
+  whole-front : take (p + (k - 1)) whole ≡ front ++ drop 1 part
+  whole-front =
+      ap (λ (m : ℕ). take (m + (k - 1)) whole) (sym front-long)
+      ∙ take-append-add front (ys ++ drop k (drop p before)) (k - 1)
+      ∙ ap (λ (zs : List ℕ). front ++ zs)
+      (take-append-le (k - 1) ys _ (omega (arith, c .same-length, part-long)) ∙ part-closed)
+
+  part-is : drop (p + 1) (take (p + k) before) ≡ drop 1 part
+  part-is = rw (take-add p k before) (rw front-long at (drop-append-add front part 1))
+
+  pub closed-within : ClosedUp p (p + k) before whole
+  closed-within = record {
+    closed = let e : p + k - 1 ≡ p + (k - 1) = omega arith in rw (e, part-is) whole-front;
+    same-length =
+        simp (length-append, front-long, length-drop)
+        (omega (arith, c .same-length, part-long));
   }
 
 -- Closing up over the oldest byte of a queue takes it out.

@@ -1,13 +1,15 @@
 -- A pass that sends the b oldest bytes of a queue to the store and closes the others up: what it keeps, byte by byte.
-use mathlib.Core.Path.{_≡_, refl, ap, sym, _∙_}
+use mathlib.Core.Path.{_≡_, refl, ap, sym, subst, _∙_}
 use mathlib.Core.Bool.{true}
 use mathlib.Core.List.{List, [], _∷_, _++_, append-assoc, append-nil}
 use Prim.Native.Nat.{ℕ, zero, suc, _+_, _-_, _/_, _%_, _≤_, _<_}
 use native.Mathlib.Omega.{arith}
-use lib.Dec.{eqb}
+use lib.Dec.{eqb, ltb}
 use lib.ListN.{length, take, drop, set, getD, length-append, length-take, length-set, take-append-drop}
+use lib.Seq.{take-set-le, set-set}
 use lib.Seq.{take-nil, take-all, length-take-le, take-append-le, drop-cons, set-at, getD-set-other}
-use borrow.Author.Tests.{eq-eqb, eqb-true}
+use mir.Val.{boolByte}
+use borrow.Author.Tests.{eq-eqb, eqb-true, eqb-false, ltb-true, ltb-false}
 use Rattle.model.specs.State.{Byte, valuesOf, countOf}
 use Rattle.model.specs.Slot.{without, placed}
 use Rattle.model.proofs.Words.{by-test}
@@ -158,6 +160,102 @@ module _ (n q b place : ℕ) (before store₀ : List ℕ) where
           store-long = w .store-long;
         }
 
+  -- An entry between those kept and those not yet seen is no part of either.
+  pass-spoils : (after store : List ℕ) (gone i : ℕ) → Passed n q b place before store₀ after store gone i
+      → (m v : ℕ) → i - gone ≤ m → m < i → Passed n q b place before store₀ (set after m v) store gone i
+  unfolding bytesIn
+  pass-spoils after store gone i w m v above below = record {
+    within = w .within;
+    gone-le = w .gone-le;
+    gone-is = w .gone-is;
+    kept-is = rw (take-set-le (i - gone) after m v above) (w .kept-is);
+    rest = λ k g. getD-set-other after m k v 0 (λ e. omega (arith, e, g)) ∙ w .rest k g;
+    stored-is = w .stored-is;
+    long = length-set after m v ∙ w .long;
+    store-long = w .store-long;
+  }
+
+  pass-stored : (after store other : List ℕ) (gone i : ℕ) → store ≡ other
+      → Passed n q b place before store₀ after store gone i → Passed n q b place before store₀ after other gone i
+  pass-stored after store other gone i e w =
+      subst (λ (s : List ℕ). Passed n q b place before store₀ after s gone i) e w
+
+  -- The store with the bytes of q among the first i entries, as many of them as a block has.
+  abbrev sentBy : ℕ → List ℕ
+  sentBy i = placed place (take b (valuesOf q (bytesIn i before))) store₀
+
+  -- The same pass while the block is not whole: the store may hold anything at the place that comes next.
+  pub record Sending (after store : List ℕ) (gone i : ℕ) : Type 0 where
+    pub passed : Passed n q b place before store₀ after (sentBy i) gone i
+    pub but-next : (v : ℕ) → gone < b → set store (place + gone) v ≡ set (sentBy i) (place + gone) v
+    pub whole : gone ≡ b → store ≡ sentBy i
+    pub same-store : length store ≡ length store₀
+
+  pub sending-starts : Sending before store₀ 0 0
+  sending-starts =
+      let e = pass-starts .stored-is in
+      record {
+        passed = pass-stored before store₀ (sentBy 0) 0 0 e pass-starts;
+        but-next = λ v m. ap (λ (s : List ℕ). set s (place + 0) v) e;
+        whole = λ l. e;
+        same-store = refl;
+      }
+
+  module _ (after store : List ℕ) (gone i : ℕ) (w : Sending after store gone i) where
+    -- While the block is not whole there is an entry more.
+    pub more-to-see : b ≤ countOf q (bytesIn n before) → gone < b → i < n
+    more-to-see enough l =
+        by-test (ltb i n)
+        (λ t. ltb-true i n t)
+        (λ t.
+        let last : i ≡ n = omega (arith, ltb-false i n t, w .passed .within) in
+        absurd (omega (
+          arith,
+          rw last at (w .passed .gone-is),
+          length-take-le b (valuesOf q (bytesIn n before)) enough,
+        )))
+
+    -- Once it is, the store is as it is to be.
+    pub sending-ends : b ≤ gone → Passed n q b place before store₀ after store gone i
+    sending-ends l =
+        let all : gone ≡ b = omega (arith, simp length-take at (w .passed .gone-is)) in
+        pass-stored after (sentBy i) store gone i (sym (w .whole all)) (w .passed)
+
+    pub sending-goes : n ≤ length before → place + b ≤ length store₀ → gone < b → i < n
+        → Sending (set after (i - gone) (getD after i 0)) (set store (place + gone) (getD after i 0 % 256))
+        (gone + boolByte (eqb (getD after i 0 / 256) q)) (i + 1)
+    sending-goes h room l more =
+        let e = getD after i 0 in
+        let after₁ = set after (i - gone) e in
+        let store₁ = set store (place + gone) (e % 256) in
+        let long = length-set store (place + gone) (e % 256) ∙ w .same-store in
+        by-test (eqb (e / 256) q)
+        (λ t.
+        let sent = pass-sends h room after (sentBy i) gone i (w .passed) more (eqb-true (e / 256) q t) l in
+        let is-sent : store₁ ≡ sentBy (i + 1) = w .but-next (e % 256) l ∙ sent .stored-is in
+        rw t record {
+          passed =
+              pass-spoils after (sentBy (i + 1)) (gone + 1) (i + 1)
+              (pass-stored after _ (sentBy (i + 1)) (gone + 1) (i + 1) (sent .stored-is) sent)
+              (i - gone) e (omega arith) (omega arith);
+          but-next = λ v m. ap (λ (s : List ℕ). set s (place + (gone + 1)) v) is-sent;
+          whole = λ m. is-sent;
+          same-store = long;
+        })
+        (λ t.
+        let kept =
+        pass-keeps h room after (sentBy i) gone i (w .passed) more (λ u. absurd (eqb-false (e / 256) q t u)) in
+        let none : gone + 0 ≡ gone = omega arith in
+        rw (t, none) record {
+          passed = pass-stored after₁ (sentBy i) (sentBy (i + 1)) gone (i + 1) (kept .stored-is) kept;
+          but-next = λ v m.
+              set-set store (place + gone) (e % 256) v
+              ∙ w .but-next v l
+              ∙ ap (λ (s : List ℕ). set s (place + gone) v) (kept .stored-is);
+          whole = λ m. absurd (omega (arith, m));
+          same-store = long;
+        })
+
   pub pass-ends : b ≤ countOf q (bytesIn n before) → (after store : List ℕ) (gone i : ℕ)
       → Passed n q b place before store₀ after store gone i → n ≤ i
       → WroteOut n q b place before after store₀ store
@@ -170,3 +268,24 @@ module _ (n q b place : ℕ) (before store₀ : List ℕ) where
         stored-is = rw e at (w .stored-is);
         same-length = w .long;
       }
+
+-- The rest of the pass, from place `start` on with the block gone: whatever was passed before it, it is passed on.
+pub record KeepsOn (n q b place : ℕ) (from store : List ℕ) (gone start : ℕ) (after : List ℕ) (i : ℕ) : Type 0 where
+  pub all-gone : b ≤ gone
+  pub gone-le : gone ≤ i
+  pub long : length after ≡ length from
+  pub passes : (before store₀ : List ℕ) → n ≤ length before → place + b ≤ length store₀
+      → Passed n q b place before store₀ from store gone start
+      → Passed n q b place before store₀ after store gone i
+
+module _ (n q b place : ℕ) (from store : List ℕ) (gone start : ℕ) where
+  pub keeping-goes : (after : List ℕ) (i : ℕ) → KeepsOn n q b place from store gone start after i → i < n
+      → KeepsOn n q b place from store gone start (set after (i - gone) (getD after i 0)) (i + 1)
+  keeping-goes after i w l = record {
+    all-gone = w .all-gone;
+    gone-le = omega (arith, w .gone-le);
+    long = length-set after (i - gone) (getD after i 0) ∙ w .long;
+    passes = λ before store₀ h room p.
+        pass-keeps n q b place before store₀ h room after store gone i (w .passes before store₀ h room p) l
+        (λ e. w .all-gone);
+  }

@@ -1,5 +1,5 @@
-// Operations on a cache that is lent as an array of entries, and on counts by queue. Each has one loop at most, and its
-// contract gives what the array then holds by the model's own definition.
+// Operations on a cache that is lent as an array of entries, and on counts by queue. None has a loop inside another, and
+// each contract gives what the array then holds by the model's own definition.
 ghost use mathlib.Core.Path.{_≡_};
 ghost use mathlib.Core.Bool.{true, false};
 ghost use Prim.Native.Nat.{ℕ, _+_, _≤_, _<_};
@@ -17,14 +17,14 @@ pub enum Chosen {
     Nothing,
 }
 
-// Whether one of 64 entries is of queue q: a loop with no early end, fit for vector instructions.
+// Whether one of 32 entries is of queue q: a loop with no early end, fit for vector instructions.
 fn has_queue(entries: &[u16], at: usize, q: u16) -> bool
-    requires { ⌜ at + 64 ≤ length (now entries) ⌝ }
-    ensures { λ r. ⌜ (r ≡ false → NoneOf q (now (entries .entry)) at 64) ⌝ }
+    requires { ⌜ at + 32 ≤ length (now entries) ⌝ }
+    ensures { λ r. ⌜ (r ≡ false → NoneOf q (now (entries .entry)) at 32) ⌝ }
 {
     let mut found: u16 = 0;
     let mut i: usize = 0;
-    while i < 64 {
+    while i < 32 {
         if entries[at + i] / 256 == q {
             found = 1;
         }
@@ -39,11 +39,11 @@ fn skip_to(entries: &[u16], n: usize, q: u16) -> usize
     ensures { λ r. ⌜ (r ≤ n) × NoneOf q (now (entries .entry)) 0 r ⌝ }
 {
     let mut i: usize = 0;
-    while i + 64 <= n {
+    while i + 32 <= n {
         if has_queue(entries, i, q) {
             break;
         }
-        i += 64;
+        i += 32;
     }
     i
 }
@@ -63,16 +63,25 @@ pub fn place_of(entries: &[u16], n: usize, q: u16) -> usize
     i
 }
 
+// All entries but the first move down by one. The loop starts at 0 and has a function of its own so that it compiles to
+// one `memmove`.
+fn move_down(entries: &mut [u16])
+    requires { ⌜ 1 ≤ length (now entries) ⌝ }
+    ensures { λ _. ⌜ ClosedUp 0 (length (now (entries .entry))) (now (entries .entry)) (now (entries .exit)) ⌝ }
+{
+    let mut i: usize = 0;
+    while i + 1 < entries.len() {
+        entries[i] = entries[i + 1];
+        i += 1;
+    }
+}
+
 // The entries after place p, up to n, move down by one.
 pub fn close_up(entries: &mut [u16], p: usize, n: usize)
     requires { ⌜ (p < n) × (n ≤ length (now entries)) ⌝ }
     ensures { λ _. ⌜ ClosedUp p n (now (entries .entry)) (now (entries .exit)) ⌝ }
 {
-    let mut i = p;
-    while i + 1 < n {
-        entries[i] = entries[i + 1];
-        i += 1;
-    }
+    move_down(&mut entries[p..n]);
 }
 
 // The oldest byte of queue q leaves the first n, and its value is returned.
@@ -94,7 +103,9 @@ pub fn join(entries: &mut [u16], n: usize, q: u8, v: u8)
     entries[n] = (q as u16) * 256 + (v as u16);
 }
 
-// The b oldest bytes of queue q go from the first n to the store, from `place` on.
+// The b oldest bytes of queue q go from the first n to the store, from `place` on. Until the block is whole, an entry is
+// written to the store and to the cache, whatever its queue: one that does not belong there is overwritten by the next,
+// and there is no branch that goes by the queues.
 pub fn write_out(entries: &mut [u16], n: usize, q: u16, b: usize, store: &mut [u8], place: usize)
     requires { ⌜ (n ≤ length (now entries)) × (place + b ≤ length (now store))
         × (b ≤ countOf q (bytesIn n (now entries))) ⌝ }
@@ -103,14 +114,15 @@ pub fn write_out(entries: &mut [u16], n: usize, q: u16, b: usize, store: &mut [u
 {
     let mut gone: usize = 0;
     let mut i: usize = 0;
-    while i < n {
+    while gone < b {
         let e = entries[i];
-        if e / 256 == q && gone < b {
-            store[place + gone] = (e % 256) as u8;
-            gone += 1;
-        } else {
-            entries[i - gone] = e;
-        }
+        store[place + gone] = (e % 256) as u8;
+        entries[i - gone] = e;
+        gone += (e / 256 == q) as usize;
+        i += 1;
+    }
+    while i < n {
+        entries[i - gone] = entries[i];
         i += 1;
     }
 }

@@ -5,10 +5,11 @@ use mathlib.Core.List.{List, [], _∷_, _++_}
 use mathlib.Core.Option.{some, none}
 use Prim.Native.Nat.{ℕ, _+_, _-_, _≤_, _<_}
 use native.Mathlib.Omega.{arith}
-use lib.Dec.{eqb}
+use lib.Dec.{eqb, leb}
 use lib.ListN.{length, drop, set, getD, replicate, length-set, length-replicate, drop-of-length-le}
-use lib.Seq.{drop-append-le, getD-set-other}
-use borrow.Author.Tests.{eqb-true}
+use lib.Seq.{drop-append-le, getD-set-other, set-getD}
+use mir.Val.{boolByte}
+use borrow.Author.Tests.{eqb-true, leb-true, leb-false}
 use Rattle.model.specs.State.{Cell, empty, held, owed, owes, owedOf}
 use Rattle.model.specs.Slot.{refillQueue}
 use Rattle.model.proofs.Words.{by-test}
@@ -114,6 +115,27 @@ module _ {i from l : ℕ} {xs credits left : List ℕ} (fits : l ≤ length xs) 
             )
             (scan-goes-on (countsIn left) (queueAt xs i) (drop (i + 1) (cellsIn l xs) ++ rest) covered);
       }
+
+    -- What a cell takes of its queue's credits, 1 where it is Owed and else 0, they cover or not.
+    abbrev takes : ℕ
+    takes = boolByte (leb 131072 (getD xs i 0))
+
+    pub scan-covers : queueAt xs i < 64 → takes ≤ getD left (queueAt xs i) 0
+        → ScannedTo (i + 1) from l xs credits (set left (queueAt xs i) (getD left (queueAt xs i) 0 - takes))
+    scan-covers below covered =
+        by-test (leb 131072 (getD xs i 0))
+        (λ t. rw t (scan-spends (leb-true 131072 (getD xs i 0) t) below (rw t at covered)))
+        (λ t.
+        let same : getD left (queueAt xs i) 0 - 0 ≡ getD left (queueAt xs i) 0 = omega arith in
+        rw (t, same, set-getD left (queueAt xs i) 0)
+        (scan-skips (leb-false 131072 (getD xs i 0) t)))
+
+    pub scan-lacks : getD left (queueAt xs i) 0 < takes
+        → Scanned (countsIn credits) (drop from (cellsIn l xs)) (some (queueAt xs i)) (countsIn left)
+    scan-lacks lacking =
+        by-test (leb 131072 (getD xs i 0))
+        (λ t. scan-finds (leb-true 131072 (getD xs i 0) t) (omega (arith, rw t at lacking)))
+        (λ t. absurd (omega (arith, rw t at lacking)))
 
 -- The tally before cell i is that of the first i cells.
 pub record TalliedTo (i n : ℕ) (xs counts : List ℕ) : Type 0 where

@@ -44,12 +44,14 @@ pub fn scan(cells: &[u32], from: usize, l: usize, credits: [u16; 64]) -> Stopped
             break Chosen::Nothing;
         }
         let c = cells[i];
-        if 131072 <= c {
+        if 65536 <= c {
+            // Whether the cell is Held or Owed is reckoned with: no branch goes by it.
             let q = (c / 256 % 256) as usize;
-            if left[q] == 0 {
+            let owes = (131072 <= c) as u16;
+            if left[q] < owes {
                 break Chosen::Queue(q as u8);
             }
-            left[q] = left[q] - 1;
+            left[q] = left[q] - owes;
         }
         i += 1;
     };

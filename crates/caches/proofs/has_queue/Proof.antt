@@ -11,10 +11,10 @@ use Rattle.caches.proofs.has_queue.Statement.{statement}
 use Rattle.caches.proofs.has_queue.Tie as tie
 
 abbrev Inv-loop : tie.InvT-loop
-Inv-loop entries at q found₀ i₀ found i = (i ≤ 64) × (found ≤ 1) × (found ≡ 0 → NoneOf q entries at i)
+Inv-loop entries at q found₀ i₀ found i = (i ≤ 32) × (found ≤ 1) × (found ≡ 0 → NoneOf q entries at i)
 
 abbrev μ-loop : tie.MeasureT-loop
-μ-loop entries at q found₀ i₀ found i = 64 - i
+μ-loop entries at q found₀ i₀ found i = 32 - i
 
 loop-holds : tie.Need-loop-holds Inv-loop μ-loop
 loop-holds c = search needs
@@ -45,7 +45,7 @@ loop-again c =
 returns : tie.Need-returns Inv-loop μ-loop
 returns c =
     let l = c .before .loop in
-    let all-seen : l .i ≡ 64 = omega arith in
+    let all-seen : l .i ≡ 32 = omega arith in
     λ e.
     let none-found : l .found ≡ 0 = omega (arith, eqb-false (l .found) 1 e) in
     rw all-seen at (l .inv .2 none-found)

@@ -33,7 +33,7 @@ loop-again c =
     let a = c .before .before .before .before .before .args in
     let l = c .before .before .before .loop in
     let none-here = c .before .has-queue .ensures (c .if1 .left) in
-    (omega arith, none-in-both (a .q) (a .entries .now) (l .i) 64 (l .inv .1) none-here)
+    (omega arith, none-in-both (a .q) (a .entries .now) (l .i) 32 (l .inv .1) none-here)
 
 returns : tie.Need-returns Inv-loop μ-loop
 returns c = search needs

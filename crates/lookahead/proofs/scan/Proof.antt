@@ -5,7 +5,7 @@ use mathlib.Core.Logic.{⊎-elim}
 use native.Mathlib.Omega.{arith}
 use borrow.Author.Needs.{needs}
 use Rattle.lookahead.proofs.Cells.{queueAt, queue-below}
-use Rattle.lookahead.proofs.Turns.{ScannedTo, scan-ends, scan-skips, scan-finds, scan-spends}
+use Rattle.lookahead.proofs.Turns.{ScannedTo, scan-ends, scan-skips, scan-covers, scan-lacks}
 use Rattle.lookahead.proofs.scan.Statement.{statement}
 use Rattle.lookahead.proofs.scan.Tie as tie
 
@@ -15,10 +15,10 @@ Inv-loop cells from l left₀ i₀ left i = ScannedTo i from l cells left₀ lef
 abbrev μ-loop : tie.MeasureT-loop
 μ-loop cells from l left₀ i₀ left i = l - i
 
--- An Owed cell that the scan comes to is of a queue below 64.
-owed-queue : (c : tie.Then2 Inv-loop μ-loop)
+-- A cell that the scan comes to and that is not empty is of a queue below 64.
+its-queue : (c : tie.Then2 Inv-loop μ-loop)
     → queueAt (c .before .before .before .before .args .cells .now) (c .before .before .before .loop .i) < 64
-owed-queue c =
+its-queue c =
     let start = c .before .before .before .before in
     queue-below (start .args .cells .now) (start .pre .1) (omega arith) 64 (start .pre .2) (omega arith)
 
@@ -34,20 +34,23 @@ shared-slice-read-c c = search needs
 cast-q : tie.Need-cast-q Inv-loop μ-loop
 cast-q c = search needs
 
+cast-owes : tie.Need-cast-owes Inv-loop μ-loop
+cast-owes c = search needs
+
 mul-if3 : tie.Need-mul-if3 Inv-loop μ-loop
 mul-if3 c = search needs
 
 array-read-if3 : tie.Need-array-read-if3 Inv-loop μ-loop
-array-read-if3 c = owed-queue c
+array-read-if3 c = its-queue c
 
-cast-t22 : tie.Need-cast-t22 Inv-loop μ-loop
-cast-t22 c = search needs
+cast-t23 : tie.Need-cast-t23 Inv-loop μ-loop
+cast-t23 c = search needs
 
 mul-left : tie.Need-mul-left Inv-loop μ-loop
 mul-left c = search needs
 
 array-read-left : tie.Need-array-read-left Inv-loop μ-loop
-array-read-left c = owed-queue (c .before)
+array-read-left c = its-queue (c .before)
 
 sub-left : tie.Need-sub-left Inv-loop μ-loop
 sub-left c = search needs
@@ -56,7 +59,7 @@ mul-left-2 : tie.Need-mul-left-2 Inv-loop μ-loop
 mul-left-2 c = search needs
 
 array-write-left : tie.Need-array-write-left Inv-loop μ-loop
-array-write-left c = owed-queue (c .before)
+array-write-left c = its-queue (c .before)
 
 add-i : tie.Need-add-i Inv-loop μ-loop
 add-i c = search needs
@@ -64,14 +67,14 @@ add-i c = search needs
 loop-less : tie.Need-loop-less Inv-loop μ-loop
 loop-less c = search needs
 
--- By the arm that uses a credit, or past a cell that owes nothing.
+-- By the arm that takes what the cell takes of the credits, or past an empty cell.
 loop-again : tie.Need-loop-again Inv-loop μ-loop
 loop-again c =
     let inv = c .before .before .before .loop .inv in
     let fits = c .before .before .before .before .pre .1 in
     ⊎-elim
-    (λ w. rw (w .2) (scan-spends fits inv (omega arith) (w .0 .taken)
-    (owed-queue (record { before = c .before; if2 = w .0 }))
+    (λ w. rw (w .2) (scan-covers fits inv (omega arith)
+    (its-queue (record { before = c .before; if2 = w .0 }))
     (omega (arith, w .1 .left))))
     (λ w. rw (w .1) (scan-skips fits inv (omega arith) (omega (arith, w .0 .left))))
     (c .if2 .came)
@@ -83,7 +86,7 @@ returns-2 : tie.Need-returns-2 Inv-loop μ-loop
 returns-2 c =
     let inv = c .before .before .before .before .loop .inv in
     let fits = c .before .before .before .before .before .pre .1 in
-    scan-finds fits inv (omega arith) (c .before .if2 .taken) (c .if3 .taken)
+    scan-lacks fits inv (omega arith) (c .if3 .taken)
 
 pub scan-spec : {M : Type 1} → statement M
 scan-spec =
@@ -95,9 +98,10 @@ scan-spec =
     mul-c
     shared-slice-read-c
     cast-q
+    cast-owes
     mul-if3
     array-read-if3
-    cast-t22
+    cast-t23
     mul-left
     array-read-left
     sub-left

@@ -1,0 +1,2 @@
+-- What slots that print promise.
+pub mod Says

@@ -1,0 +1,222 @@
+-- What is left of a script that was judged good. The reader takes a command there, since a refusal would be the
+-- script's fault; and what follows the command is good again: the script from there on, or nothing behind the end.
+use mathlib.Core.Path.{_≡_, refl, ap, sym, _∙_}
+use mathlib.Core.Bool.{Bool, true, false, not}
+use mathlib.Core.List.{List, [], _∷_, _++_}
+use mathlib.Core.Option.{Option, some, none}
+use Prim.Native.Nat.{ℕ, _+_, _-_, _≤_, _<_}
+use native.Mathlib.Omega.{arith}
+use lib.Dec.{ltb}
+use lib.ListN.{length, drop, length-drop, drop-of-length-le}
+use lib.Seq.{drop-drop}
+use borrow.Author.Tests.{ltb-true, ltb-false, lt-ltb, le-ltb}
+use Rattle.model.specs.Words.{choose}
+use Rattle.model.proofs.Words.{by-test}
+use Rattle.model.specs.Sizes as of
+use Rattle.commands.specs.Commands.{Kind, sizes, Command, command, row, isSizes, isEnd, kindOf, widths}
+use Rattle.commands.specs.Scripts.{refused, taken, outOfPlace, readKnown, readCode, readCommand, Script, afterEnd}
+use Rattle.commands.specs.Scripts.{withCommand, judgeFrom, judge}
+use Rattle.commands.proofs.Judging.{refused-not-taken, taken-same-command, reads-out-of-place, reads-cut-short}
+use Rattle.commands.proofs.Judging.{reads-taken, taken-length, judged-refused, judged-end, judged-on, judged-from-start}
+use Rattle.printout.specs.Run.{slotsOf, slotsOfAll, sizesOf}
+use Rattle.runner.specs.declared.FirstSizes.{FirstSizes}
+use Rattle.runner.specs.Says.{scriptFrom, callsFrom, SizesSays}
+
+-- A refusal has a number.
+refused-same : (n k : ℕ) → refused n ≡ refused k → n ≡ k
+refused-same n k e = cc
+
+known-refused : (first : Bool) (k : Kind) (bytes : List ℕ) (n : ℕ) → readKnown first k bytes ≡ refused n → 1 ≤ n
+known-refused first k bytes n e =
+    by-test (outOfPlace first k)
+    (λ t. omega (arith, refused-same 14 n (sym (reads-out-of-place first k bytes t) ∙ e)))
+    (λ t. by-test (ltb (length bytes) (widths (row k .operands)))
+    (λ u.
+    let short = ltb-true (length bytes) (widths (row k .operands)) u in
+    omega (arith, refused-same 13 n (sym (reads-cut-short first k bytes t short) ∙ e)))
+    (λ u.
+    let long = ltb-false (length bytes) (widths (row k .operands)) u in
+    absurd (refused-not-taken n _ _ (sym e ∙ reads-taken first k bytes t long))))
+
+code-refused : (first : Bool) (found : Option Kind) (bytes : List ℕ) (n : ℕ) → readCode first found bytes ≡ refused n
+    → 1 ≤ n
+code-refused first none bytes n e = omega (arith, refused-same 12 n e)
+code-refused first (some k) bytes n e = known-refused first k bytes n e
+
+pub refused-some : (first : Bool) (bytes : List ℕ) (n : ℕ) → readCommand first bytes ≡ refused n → 1 ≤ n
+refused-some first [] n e = omega (arith, refused-same 15 n e)
+refused-some first (code ∷ bytes) n e = code-refused first (kindOf code) bytes n e
+
+-- The first command that is taken is sizes.
+sizes-in-place : (k : Kind) → outOfPlace true k ≡ false → isSizes k ≡ true
+sizes-in-place k t = go (isSizes k) t
+  where
+    go : (b : Bool) → not b ≡ false → b ≡ true
+    go true t = refl
+    go false t = sym t
+
+known-first : (k : Kind) (bytes : List ℕ) (c : Command) (n : ℕ) → readKnown true k bytes ≡ taken c n
+    → isSizes (c .kind) ≡ true
+known-first k bytes c n e =
+    by-test (outOfPlace true k)
+    (λ t. absurd (refused-not-taken 14 c n (sym (reads-out-of-place true k bytes t) ∙ e)))
+    (λ t. by-test (ltb (length bytes) (widths (row k .operands)))
+    (λ u.
+    let short = ltb-true (length bytes) (widths (row k .operands)) u in
+    absurd (refused-not-taken 13 c n (sym (reads-cut-short true k bytes t short) ∙ e)))
+    (λ u.
+    let long = ltb-false (length bytes) (widths (row k .operands)) u in
+    let same = taken-same-command _ c _ n (sym (reads-taken true k bytes t long) ∙ e) in
+    ap (λ (d : Command). isSizes (d .kind)) (sym same) ∙ sizes-in-place k t))
+
+code-first : (found : Option Kind) (bytes : List ℕ) (c : Command) (n : ℕ) → readCode true found bytes ≡ taken c n
+    → isSizes (c .kind) ≡ true
+code-first none bytes c n e = absurd (refused-not-taken 12 c n e)
+code-first (some k) bytes c n e = known-first k bytes c n e
+
+pub first-is-sizes : (bytes : List ℕ) (c : Command) (n : ℕ) → readCommand true bytes ≡ taken c n
+    → isSizes (c .kind) ≡ true
+first-is-sizes [] c n e = absurd (refused-not-taken 15 c n e)
+first-is-sizes (code ∷ bytes) c n e = code-first (kindOf code) bytes c n e
+
+-- Before the end of a script, and at it.
+from-within : (script : List ℕ) (at : ℕ) → at < length script
+    → scriptFrom script at ≡ judgeFrom false at (drop at script)
+from-within script at h =
+    ap (λ (t : Bool). choose t (judgeFrom false at (drop at script)) (afterEnd at [])) (lt-ltb at (length script) h)
+
+from-end : (script : List ℕ) (at : ℕ) → length script ≤ at → scriptFrom script at ≡ afterEnd at []
+from-end script at h =
+    ap (λ (t : Bool). choose t (judgeFrom false at (drop at script)) (afterEnd at [])) (le-ltb at (length script) h)
+
+pub no-calls-left : (script : List ℕ) (at : ℕ) → length script ≤ at → callsFrom script at ≡ []
+no-calls-left script at h = ap (λ (s : Script). slotsOfAll (s .commands)) (from-end script at h)
+
+-- Where nothing faulty follows the end, nothing does.
+nothing-follows : (offset : ℕ) (bytes : List ℕ) → afterEnd offset bytes .number ≡ 0 → bytes ≡ []
+nothing-follows offset [] e = refl
+nothing-follows offset (x ∷ bytes) e = absurd (omega (arith, e))
+
+-- A script that reads well from a place on.
+module _ (first : Bool) (script : List ℕ) (at : ℕ) (good : judgeFrom first at (drop at script) .number ≡ 0) where
+  pub not-refused : (n : ℕ) → refused n ≡ readCommand first (drop at script) → ⊥
+  not-refused n e =
+      omega (
+        arith,
+        refused-some first (drop at script) n (sym e),
+        sym (ap (λ (s : Script). s .number) (judged-refused first at (drop at script) n (sym e))) ∙ good,
+      )
+
+  module _ (c : Command) (n : ℕ) (e : taken c n ≡ readCommand first (drop at script)) where
+    abbrev rest : List ℕ
+    rest = drop n (drop at script)
+
+    pub moves-on : (1 ≤ n) × (at + n ≤ length script)
+    moves-on =
+        let long = taken-length first (drop at script) c n (sym e) in
+        (long .0, omega (arith, long .0, long .1, length-drop at script))
+
+    rest-is : rest ≡ drop (at + n) script
+    rest-is = drop-drop n at script
+
+    -- The end was read, and nothing follows it.
+    after-end : isEnd (c .kind) ≡ true
+        → judgeFrom first at (drop at script) ≡ withCommand c (scriptFrom script (at + n))
+    after-end t =
+        let ended = judged-end first at (drop at script) c n (sym e) t in
+        let none-left = nothing-follows (at + n) rest (sym (ap (λ (s : Script). s .number) ended) ∙ good) in
+        let past : length script ≤ at + n = omega (
+          arith,
+          ap length (sym rest-is ∙ none-left),
+          length-drop (at + n) script,
+        ) in
+        ended
+        ∙ ap (λ (bytes : List ℕ). withCommand c (afterEnd (at + n) bytes)) none-left
+        ∙ ap (withCommand c) (sym (from-end script (at + n) past))
+
+    -- The script goes on, and a command is due.
+    goes-on : isEnd (c .kind) ≡ false
+        → judgeFrom first at (drop at script) ≡ withCommand c (scriptFrom script (at + n))
+    goes-on t =
+        let on =
+        judged-on first at (drop at script) c n (sym e) t
+        ∙ ap (λ (bytes : List ℕ). withCommand c (judgeFrom false (at + n) bytes)) rest-is in
+        let good-on = sym (ap (λ (s : Script). s .number) on) ∙ good in
+        by-test (ltb (at + n) (length script))
+        (λ u. on ∙ ap (withCommand c) (sym (from-within script (at + n) (ltb-true (at + n) (length script) u))))
+        (λ u.
+        let none-left : drop (at + n) script ≡ [] =
+        drop-of-length-le script (ltb-false (at + n) (length script) u) in
+        absurd (omega (
+          arith,
+          sym (ap (λ (s : Script). s .number) (judged-refused false (at + n) [] 15 refl))
+              ∙ ap (λ (bytes : List ℕ). judgeFrom false (at + n) bytes .number) (sym none-left)
+              ∙ good-on,
+        )))
+
+    after : judgeFrom first at (drop at script) ≡ withCommand c (scriptFrom script (at + n))
+    after = by-test (isEnd (c .kind)) after-end goes-on
+
+    pub commands-are : judgeFrom first at (drop at script) .commands ≡ c ∷ scriptFrom script (at + n) .commands
+    commands-are = ap (λ (s : Script). s .commands) after
+
+    pub rest-good : scriptFrom script (at + n) .number ≡ 0
+    rest-good = sym (ap (λ (s : Script). s .number) after) ∙ good
+
+-- The next command of a script that reads well: it has a byte or more, all within the script; what is behind it reads
+-- well, and the slots that are left are its own and those behind it.
+pub record Next (script : List ℕ) (at : ℕ) (c : Command) (n : ℕ) : Type 0 where
+  pub some-bytes : 1 ≤ n
+  pub within : at + n ≤ length script
+  pub good-behind : scriptFrom script (at + n) .number ≡ 0
+  pub calls-are : callsFrom script at ≡ slotsOf c ++ callsFrom script (at + n)
+
+-- A place behind the first command, before the end of the script.
+module _ (script : List ℕ) (at : ℕ) (more : at < length script) (good : scriptFrom script at .number ≡ 0) where
+  good-here : judgeFrom false at (drop at script) .number ≡ 0
+  good-here = sym (ap (λ (s : Script). s .number) (from-within script at more)) ∙ good
+
+  pub none-refused : (n : ℕ) → refused n ≡ readCommand false (drop at script) → ⊥
+  none-refused = not-refused false script at good-here
+
+  pub next-command : (c : Command) (n : ℕ) → taken c n ≡ readCommand false (drop at script) → Next script at c n
+  next-command c n e = record {
+    some-bytes = moves-on false script at good-here c n e .0;
+    within = moves-on false script at good-here c n e .1;
+    good-behind = rest-good false script at good-here c n e;
+    calls-are =
+        ap (λ (s : Script). slotsOfAll (s .commands)) (from-within script at more)
+        ∙ ap slotsOfAll (commands-are false script at good-here c n e);
+  }
+
+-- The first command of a script that was judged good.
+module _ (script : List ℕ) (good : judge script .number ≡ 0) where
+  good-start : judgeFrom true 0 (drop 0 script) .number ≡ 0
+  good-start = sym (ap (λ (s : Script). s .number) (judged-from-start script)) ∙ good
+
+  pub first-not-refused : (n : ℕ) → refused n ≡ readCommand true script → ⊥
+  first-not-refused = not-refused true script 0 good-start
+
+  pub first-sizes : (q b k n : ℕ) (r : FirstSizes) → taken (command sizes (q ∷ b ∷ k ∷ [])) n ≡ readCommand true script
+      → r .queues ≡ q → r .block ≡ b → r .blocks ≡ k → r .length ≡ n → SizesSays script r
+  first-sizes q b k n r e eq eb ek en = record {
+    sizes-are =
+        ap (λ (i : ℕ). of.sizes i (r .block) (r .blocks)) eq
+        ∙ ap (λ (i : ℕ). of.sizes q i (r .blocks)) eb
+        ∙ ap (λ (i : ℕ). of.sizes q b i) ek
+        ∙ sym (ap sizesOf all);
+    calls-are = ap (callsFrom script) place ∙ sym (ap slotsOfAll all);
+    rest-good =
+        ap (λ (i : ℕ). scriptFrom script i .number) place ∙ rest-good true script 0 good-start c n e;
+  }
+    where
+      c : Command
+      c = command sizes (q ∷ b ∷ k ∷ [])
+
+      place : r .length ≡ 0 + n
+      place = omega (arith, en)
+
+      all : judge script .commands ≡ c ∷ scriptFrom script (0 + n) .commands
+      all =
+          ap (λ (s : Script). s .commands) (judged-from-start script)
+          ∙ commands-are true script 0 good-start c n e

@@ -1,0 +1,2 @@
+-- What the runner promises.
+pub mod Says

@@ -1,0 +1,2 @@
+-- The program's proofs.
+pub mod Within

@@ -1,0 +1,72 @@
+//! Compares the proved program with the second one on scripts from a seeded generator.
+//!
+//! compare [SEED [COUNT [PROGRAM]]]
+//! compare speed
+//!
+//! Each script is judged, read command by command, written back and run by both. PROGRAM is the program `slots`: every
+//! hundredth script, and those at the edges of the format, also go through it. Prints how often each line and each
+//! refusal occurred; one that never occurred is a failure. The last line is 'N passed, M failed'.
+
+mod commands;
+mod library;
+mod scripts;
+mod seen;
+mod speed;
+mod texts;
+
+use std::process::ExitCode;
+
+use second::random::Random;
+
+use seen::Seen;
+
+fn main() -> ExitCode {
+    let arguments: Vec<String> = std::env::args().skip(1).collect();
+    if arguments.first().is_some_and(|word| word == "speed") {
+        speed::measure();
+        return ExitCode::SUCCESS;
+    }
+    let number = |index: usize, usual: u64| match arguments.get(index) {
+        Some(word) => word.parse().expect("SEED and COUNT are whole numbers"),
+        None => usual,
+    };
+    let (seed, count) = (number(0, 1), number(1, 4_000));
+    let program = arguments.get(2).map(String::as_str);
+
+    let mut random = Random::new(seed);
+    let mut all = scripts::edges();
+    let edges = all.len();
+    all.extend(scripts::long(&mut random));
+    all.extend((0..count).map(|_| scripts::script(&mut random)));
+
+    let mut seen = Seen::default();
+    let mut failed = 0;
+    for (place, script) in all.iter().enumerate() {
+        let through = program.filter(|_| place < edges || place % 100 == 0);
+        if let Err(what) = compare(script, through, &mut seen) {
+            println!("script {place} of seed {seed}, {} bytes: {what}", script.len());
+            failed += 1;
+        }
+    }
+    println!("{seen}");
+    for kind in seen.never() {
+        println!("{kind} never occurred");
+        failed += 1;
+    }
+    println!("{} passed, {failed} failed", all.len() - failed.min(all.len()));
+    if failed == 0 {
+        ExitCode::SUCCESS
+    } else {
+        ExitCode::FAILURE
+    }
+}
+
+fn compare(script: &[u8], program: Option<&str>, seen: &mut Seen) -> Result<(), String> {
+    commands::compare(script)?;
+    let text = texts::compare(script)?;
+    seen.add(&text);
+    match program {
+        Some(program) => texts::compare_program(program, script, &text),
+        None => Ok(()),
+    }
+}

@@ -23,8 +23,9 @@ pub mod moves;
 // An empty cell.
 const EMPTY: u32 = 0;
 
-// "The state is one record that carries its caches and lookahead inside it": a byte of a cache is queue × 256 + value, a
-// cell is kind × 65,536 + queue × 256 + value, and for each queue there is its first ring block and its block count.
+// "The state is one record that carries its caches and lookahead inside it": a byte of a cache is queue × 256 +
+// value, a cell is kind × 65,536 + queue × 256 + value, and for each queue there is its first ring block and its
+// block count.
 pub struct State {
     pub small: Small,
     pub tail: [u16; 2144],
@@ -134,8 +135,8 @@ impl State {
         }
     }
 
-    // One slot, of any state and any store: 3 and 2 are judged first, and then the rest by number. On a refusal the very
-    // record comes back.
+    // One slot, of any state and any store: 3 and 2 are judged first, and then the rest by number. On a refusal the
+    // very record comes back.
     pub fn slot(self, arrival: Arrival, request: Request, store: &mut [u8]) -> Slotted
         ensures { λ r. ⌜ SlotSays self (now (store .entry)) (callIn arrival request) r (now (store .exit)) ⌝ }
     {

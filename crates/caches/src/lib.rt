@@ -1,5 +1,5 @@
-// Operations on a cache that is lent as an array of entries, and on counts by queue. None has a loop inside another, and
-// each contract gives what the array then holds by the model's own definition.
+// Operations on a cache that is lent as an array of entries, and on counts by queue. None has a loop inside another,
+// and each contract gives what the array then holds by the model's own definition.
 ghost use mathlib.Core.Path.{_≡_};
 ghost use mathlib.Core.Bool.{true, false};
 ghost use Prim.Native.Nat.{ℕ, _+_, _≤_, _<_};
@@ -103,9 +103,9 @@ pub fn join(entries: &mut [u16], n: usize, q: u8, v: u8)
     entries[n] = (q as u16) * 256 + (v as u16);
 }
 
-// The b oldest bytes of queue q go from the first n to the store, from `place` on. Until the block is whole, an entry is
-// written to the store and to the cache, whatever its queue: one that does not belong there is overwritten by the next,
-// and there is no branch that goes by the queues.
+// The b oldest bytes of queue q go from the first n to the store, from `place` on. Until the block is whole, an entry
+// is written to the store and to the cache, whatever its queue: one that does not belong there is overwritten by the
+// next, and there is no branch that goes by the queues.
 pub fn write_out(entries: &mut [u16], n: usize, q: u16, b: usize, store: &mut [u8], place: usize)
     requires { ⌜ (n ≤ length (now entries)) × (place + b ≤ length (now store))
         × (b ≤ countOf q (bytesIn n (now entries))) ⌝ }

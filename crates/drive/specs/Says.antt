@@ -1,4 +1,5 @@
--- A run from a fresh state: the list of demand 3, an answer for each of its slots, and its store; or 1, and all as it was.
+-- A run from a fresh state: the list of demand 3, an answer for each of its slots, and its store; or 1, and all as it
+-- was.
 use mathlib.Core.Path.{_≡_}
 use mathlib.Core.Bool.{true, false}
 use mathlib.Core.List.{List, _++_, map}

@@ -1,5 +1,5 @@
-// The buffer for C and Rust callers, a whole list of slots from a fresh state in each call: for tests and benchmarks from
-// outside. Each answers 0, or 1 where the sizes are refused.
+// The buffer for C and Rust callers, a whole list of slots from a fresh state in each call: for tests and benchmarks
+// from outside. Each answers 0, or 1 where the sizes are refused.
 ghost use mathlib.Core.Path.{_≡_};
 ghost use Prim.Native.Nat.{_≤_};
 ghost use Rattle.drive.specs.Says.{DroveSays};

@@ -1,6 +1,5 @@
-// Scripts for C and Rust callers: for tests and benchmarks from outside.
-ghost use mathlib.Core.Path.{_≡_};
-ghost use Rattle.commands.specs.Scripts.{judge};
+// Scripts for C and Rust callers: for tests and benchmarks from outside. What it hands on is compared there with the
+// second program.
 use commands::Command;
 use runner::Ran;
 use scripts::Reading;
@@ -108,9 +107,7 @@ fn at(given: &[u64], place: usize) -> u64 {
 
 // A whole script judged: 0, or the number of its first fault and in `offset` its place.
 #[no_mangle]
-pub extern "C" fn script_judge(script: &[u8], offset: &mut [u64]) -> u8
-    ensures { λ r. ⌜ r ≡ judge (now (script .entry)) .number ⌝ }
-{
+pub extern "C" fn script_judge(script: &[u8], offset: &mut [u64]) -> u8 {
     let judged = scripts::judge(script);
     put(offset, 0, judged.offset as u64);
     judged.number

@@ -1,5 +1,5 @@
-// Idle slots on lent arrays, in place. A stretch is its quiet slots at once, then the one slot that may do something; any
-// number of idle slots are stretches, one after the other.
+// Idle slots on lent arrays, in place. A stretch is its quiet slots at once, then the one slot that may do something;
+// any number of idle slots are stretches, one after the other.
 ghost use mathlib.Core.Path.{_≡_};
 ghost use mathlib.Core.Bool.{true};
 ghost use Prim.Native.Nat.{_<_};

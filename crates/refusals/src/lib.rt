@@ -26,7 +26,8 @@ use parts::Small;
 pub fn judge_arrival(tails: &[u16], counts: &[u8], small: Small, arrival: Arrival) -> u8
     requires { ⌜ (accepts paperLimits (sizesIn small) ≡ true)
         × (length (now tails) ≡ 64) × (length (now counts) ≡ 64) ⌝ }
-    ensures { λ r. ⌜ r ≡ arrivalNumber (figuresIn small (now (tails .entry)) [] [] (now (counts .entry))) (arrivalIn arrival) ⌝ }
+    ensures { λ r. ⌜ r ≡ arrivalNumber (figuresIn small (now (tails .entry)) [] [] (now (counts .entry)))
+        (arrivalIn arrival) ⌝ }
 {
     match arrival {
         Arrival::NoArrival => 0,
@@ -48,7 +49,8 @@ pub fn judge_arrival(tails: &[u16], counts: &[u8], small: Small, arrival: Arriva
 pub fn is_owed(heads: &[u16], owing: &[u16], counts: &[u8], small: Small, request: Request) -> bool
     requires { ⌜ (accepts paperLimits (sizesIn small) ≡ true)
         × (length (now heads) ≡ 64) × (length (now owing) ≡ 64) × (length (now counts) ≡ 64) ⌝ }
-    ensures { λ r. ⌜ r ≡ owesNow (figuresIn small [] (now (heads .entry)) (now (owing .entry)) (now (counts .entry))) (requestIn request) ⌝ }
+    ensures { λ r. ⌜ r ≡ owesNow (figuresIn small [] (now (heads .entry)) (now (owing .entry)) (now (counts .entry)))
+        (requestIn request) ⌝ }
 {
     match request {
         Request::NoRequest => false,
@@ -81,7 +83,8 @@ pub fn judge_request(
     request: Request,
 ) -> u8
     requires { ⌜ (accepts paperLimits (sizesIn small) ≡ true) × (length (now tails) ≡ 64) ⌝ }
-    ensures { λ r. ⌜ r ≡ requestNumber (figuresIn small (now (tails .entry)) [] [] []) owes (arrivalIn arrival) (requestIn request) ⌝ }
+    ensures { λ r. ⌜ r ≡ requestNumber (figuresIn small (now (tails .entry)) [] [] []) owes (arrivalIn arrival)
+        (requestIn request) ⌝ }
 {
     match request {
         Request::NoRequest => 0,
@@ -148,7 +151,8 @@ pub fn judge(
 ) -> u8
     requires { ⌜ (accepts paperLimits (sizesIn small) ≡ true) × (length (now tails) ≡ 64) × (length (now heads) ≡ 64)
         × (length (now counts) ≡ 64) × (cellBelow 64 (cellOf cell) ≡ true) ⌝ }
-    ensures { λ r. ⌜ r ≡ earlyNumber (figuresIn small (now (tails .entry)) (now (heads .entry)) [] (now (counts .entry)))
+    ensures { λ r. ⌜ r ≡ earlyNumber
+        (figuresIn small (now (tails .entry)) (now (heads .entry)) [] (now (counts .entry)))
         owes (cellOf cell) (callIn arrival request) ⌝ }
 {
     let a = judge_arrival(tails, counts, small, arrival);
@@ -169,7 +173,8 @@ pub fn judge(
 // Where the scan of the older cells has stopped, or else the new cell if it is Owed and not covered.
 fn or_new(stopped: lookahead::Stopped, owes: bool, request: Request) -> Chosen
     requires { ⌜ ((q : ℕ) → requestIn request ≡ some q → owes ≡ true → q < 64) ⌝ }
-    ensures { λ r. ⌜ chosenIn r ≡ scanEnds (chosenIn (stopped .found)) (countsIn (stopped .left)) (newCell owes (requestIn request) ∷ []) ⌝ }
+    ensures { λ r. ⌜ chosenIn r ≡ scanEnds (chosenIn (stopped .found)) (countsIn (stopped .left))
+        (newCell owes (requestIn request) ∷ []) ⌝ }
 {
     let found = stopped.found;
     match found {
@@ -201,7 +206,8 @@ pub fn to_read(
     owes: bool,
     request: Request,
 ) -> Chosen
-    requires { ⌜ (accepts paperLimits (sizesIn small) ≡ true) × (small .phase < small .block) × (length (now heads) ≡ 64) × (length (now cells) ≡ 2017)
+    requires { ⌜ (accepts paperLimits (sizesIn small) ≡ true) × (small .phase < small .block)
+        × (length (now heads) ≡ 64) × (length (now cells) ≡ 2017)
         × (allOf (cellBelow 64) (cellsIn (lookahead (sizesIn small)) (now cells)) ≡ true)
         × ((q : ℕ) → cellOf (getD (now cells) 0 0) ≡ owed q → 1 ≤ countsIn (now heads) q)
         × ((q : ℕ) → requestIn request ≡ some q → owes ≡ true → q < 64) ⌝ }
@@ -261,11 +267,13 @@ pub fn judge_slot(
     arrival: Arrival,
     request: Request,
 ) -> Plan
-    requires { ⌜ (accepts paperLimits (sizesIn small) ≡ true) × (small .phase < small .block) × (small .«head_fill» ≤ 4034)
+    requires { ⌜ (accepts paperLimits (sizesIn small) ≡ true) × (small .phase < small .block)
+        × (small .«head_fill» ≤ 4034)
         × (length (now tails) ≡ 64) × (length (now heads) ≡ 64) × (length (now owing) ≡ 64) × (length (now counts) ≡ 64)
         × (length (now cells) ≡ 2017)
         × (allOf (cellBelow 64) (cellsIn (lookahead (sizesIn small)) (now cells)) ≡ true) ⌝ }
-    ensures { λ r. ⌜ PlanSays (figuresIn small (now (tails .entry)) (now (heads .entry)) (now (owing .entry)) (now (counts .entry)))
+    ensures { λ r. ⌜ PlanSays
+        (figuresIn small (now (tails .entry)) (now (heads .entry)) (now (owing .entry)) (now (counts .entry)))
         (small .phase) (small .«head_fill») (cellsIn (lookahead (sizesIn small)) (now (cells .entry)))
         (callIn arrival request) r ⌝ }
 {

@@ -1,5 +1,5 @@
--- A run before call i has run the first i calls as the model's list: their answers stand, what lies behind them is as it
--- was, and state and store are as those calls leave them. One call more is one slot more.
+-- A run before call i has run the first i calls as the model's list: their answers stand, what lies behind them is as
+-- it was, and state and store are as those calls leave them. One call more is one slot more.
 use mathlib.Core.Path.{_≡_, refl, ap, sym, _∙_, subst}
 use mathlib.Core.List.{List, [], _∷_, _++_, map, map-append}
 use mathlib.Core.Option.{Option}

@@ -1,5 +1,5 @@
--- A state that is ready for a slot: its counts are its figures, its fills lie in their arrays, and what an accepted slot
--- leaves is ready again.
+-- A state that is ready for a slot: its counts are its figures, its fills lie in their arrays, and what an accepted
+-- slot leaves is ready again.
 use mathlib.Core.Path.{_≡_, refl, ap, sym, _∙_, subst, fun-ext}
 use mathlib.Core.Bool.{true}
 use mathlib.Core.List.{List, [], _∷_}

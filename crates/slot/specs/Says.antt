@@ -7,8 +7,8 @@ use Prim.Native.Nat.{ℕ, _≤_}
 use lib.ListN.{length}
 use Rattle.model.specs.Sizes.{paper, storeBytes}
 use Rattle.model.specs.State.{State, keeps}
-use Rattle.model.specs.Slot.{Call, delivery, isOwed, joined, asked, wrote, wroteStore, queueToWrite, queueToRead, refusal}
-use Rattle.model.specs.Slot.{Answer, accept, slot}
+use Rattle.model.specs.Slot.{Call, delivery, isOwed, joined, asked, wrote, wroteStore, queueToWrite, queueToRead}
+use Rattle.model.specs.Slot.{refusal, Answer, accept, slot}
 use Rattle.caches.specs.Says.{chosenIn}
 use Rattle.parts.specs.declared.Small.{Small}
 use Rattle.parts.specs.Calls.{deliveryIn}

@@ -1,5 +1,5 @@
--- What the steps say of their arrays is what the model's steps say of a state: the moves look at sizes, caches and rings
--- alone, a request's cell goes by the test that was decided, and the oldest cell is the first of the array.
+-- What the steps say of their arrays is what the model's steps say of a state: the moves look at sizes, caches and
+-- rings alone, a request's cell goes by the test that was decided, and the oldest cell is the first of the array.
 use mathlib.Core.Path.{_≡_, refl}
 use mathlib.Core.Bool.{Bool}
 use mathlib.Core.List.{List, [], _∷_}
@@ -8,7 +8,8 @@ use Prim.Native.Nat.{ℕ, zero, suc, _≤_}
 use native.Mathlib.Omega.{arith}
 use lib.ListN.{length, getD}
 use Rattle.model.specs.State.{State}
-use Rattle.model.specs.Slot.{oldestCell, isOwed, youngestCell, tailLeft, tailWritten, ringsWritten, storeWritten, headRead}
+use Rattle.model.specs.Slot.{oldestCell, isOwed, youngestCell, tailLeft, tailWritten, ringsWritten, storeWritten}
+use Rattle.model.specs.Slot.{headRead}
 use Rattle.model.specs.Slot.{ringsRead}
 use Rattle.lookahead.specs.Views.{cellOf, cellsIn}
 use Rattle.steps.specs.Says.{cellAsked, tailAsked, moving}

@@ -107,7 +107,8 @@ pub fn write(
     written: Chosen,
     store: &mut [u8],
 ) -> usize
-    requires { ⌜ (fill ≤ length (now tail)) × (accepts paperLimits (sizesIn small) ≡ true) × (storeBytes (sizesIn small) ≤ length (now store))
+    requires { ⌜ (fill ≤ length (now tail)) × (accepts paperLimits (sizesIn small) ≡ true)
+        × (storeBytes (sizesIn small) ≤ length (now store))
         × (length (now firsts) ≡ 64) × (length (now counts) ≡ 64)
         × ((q : ℕ) → chosenIn written ≡ some q → (q < small .queues)
         × (small .block ≤ countOf q (bytesIn fill (now tail)))
@@ -147,7 +148,8 @@ pub fn read(
     chosen: Chosen,
     store: &[u8],
 ) -> usize
-    requires { ⌜ (fill ≤ length (now head)) × (accepts paperLimits (sizesIn small) ≡ true) × (storeBytes (sizesIn small) ≤ length (now store))
+    requires { ⌜ (fill ≤ length (now head)) × (accepts paperLimits (sizesIn small) ≡ true)
+        × (storeBytes (sizesIn small) ≤ length (now store))
         × (length (now firsts) ≡ 64) × (length (now counts) ≡ 64)
         × ((q : ℕ) → chosenIn chosen ≡ some q → (q < small .queues) × (fill + small .block ≤ length (now head))
         × (countsIn (now firsts) q < small .blocks) × (1 ≤ countsIn (now counts) q)) ⌝ }

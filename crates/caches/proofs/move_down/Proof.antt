@@ -1,5 +1,5 @@
--- `caches::move_down` meets its contract: the entries have closed up over the first as far as place i, and the loop ends
--- at the last.
+-- `caches::move_down` meets its contract: the entries have closed up over the first as far as place i, and the loop
+-- ends at the last.
 use mathlib.Core.Path.{_≡_}
 use Prim.Native.Nat.{_+_, _-_, _≤_}
 use lib.ListN.{length}

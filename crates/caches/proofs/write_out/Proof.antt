@@ -1,5 +1,5 @@
--- `caches::write_out` meets its contract: until the block is whole each of the first i entries was sent or kept, and the
--- store may hold anything at the place that comes next; then the rest is kept.
+-- `caches::write_out` meets its contract: until the block is whole each of the first i entries was sent or kept, and
+-- the store may hold anything at the place that comes next; then the rest is kept.
 use mathlib.Core.Bool.{Bool, true, false}
 use Prim.Native.Nat.{_-_, _/_, _≤_, _<_}
 use native.Mathlib.Omega.{arith}
@@ -33,7 +33,8 @@ is-more c =
     let start = c .before .before .before in
     let a = start .args in
     let l = c .before .before .loop in
-    more-to-see (a .n) (a .q) (a .b) (a .place) (a .entries .now) (a .store .now) (l .entries) (l .store) (l .gone) (l .i)
+    more-to-see (a .n) (a .q) (a .b) (a .place) (a .entries .now) (a .store .now)
+    (l .entries) (l .store) (l .gone) (l .i)
     (l .inv) (start .pre .2) (omega arith)
 
 bit : (t : Bool) → boolByte t ≤ 1
@@ -137,7 +138,8 @@ returns c =
     let l = c .before .before .before .loop in
     let l2 = c .before .loop2 in
     let sent =
-    sending-ends (a .n) (a .q) (a .b) (a .place) (a .entries .now) (a .store .now) (l .entries) (l .store) (l .gone) (l .i)
+    sending-ends (a .n) (a .q) (a .b) (a .place) (a .entries .now) (a .store .now)
+    (l .entries) (l .store) (l .gone) (l .i)
     (l .inv) (l2 .inv .all-gone) in
     pass-ends (a .n) (a .q) (a .b) (a .place) (a .entries .now) (a .store .now) (start .pre .2)
     (l2 .entries) (l .store) (l .gone) (l2 .i)

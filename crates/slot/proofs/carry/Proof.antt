@@ -1,5 +1,5 @@
--- `carry` meets its contract: each step finds what it asks (Asks), and what the steps leave is what the model's accepted
--- slot leaves (Compose).
+-- `carry` meets its contract: each step finds what it asks (Asks), and what the steps leave is what the model's
+-- accepted slot leaves (Compose).
 use mathlib.Core.Path.{ap, sym, _∙_}
 use native.Mathlib.Omega.{arith}
 use borrow.Author.Needs.{needs}

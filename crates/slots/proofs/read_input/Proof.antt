@@ -1,4 +1,5 @@
--- `read_input` meets its contract: what is read is within the buffer, whose length stays; the measure is what is left of it.
+-- `read_input` meets its contract: what is read is within the buffer, whose length stays; the measure is what is left
+-- of it.
 use mathlib.Core.Path.{_≡_}
 use Prim.Native.Nat.{_-_, _≤_}
 use borrow.Author.Needs.{needs}

@@ -7,13 +7,14 @@ use mathlib.Core.Option.{Option, some, none}
 use Prim.Native.Nat.{ℕ, zero, suc, _+_, _*_, _<_, _≤_}
 use native.Mathlib.Omega.{arith}
 use lib.ListN.{length, take, getD}
-use borrow.Author.Tests.{eqb-false, leb-false, ltb-false, not-false}
+use borrow.Author.Tests.{eqb-false, ne-eqb, leb-false, ltb-false, not-false}
 use Rattle.model.specs.Words.{when, firstRefusal}
 use Rattle.model.specs.Sizes.{Design, tailSize, storeBytes}
 use Rattle.model.specs.State.{Byte, State, countOf, tailBytes, blocks, keeps}
 use Rattle.model.specs.Slot.{Call, arriving, isOwed, oldestCell, wrote, queueToRead, arrivalUnknown}
 use Rattle.model.specs.Slot.{arrivalFull, requestUnknown, nothingToTake, leavesUncovered, tailFull, headFull}
 use Rattle.model.specs.Slot.{refusals, refusal, Answer, accept, refuse, answer, slot}
+use Rattle.model.specs.Lists.{Step, stepOf, run, lastState, lastStore, accepted}
 use Rattle.model.proofs.Words.{by-zero, true-not-false, no-refusal-at, when-zero}
 use Rattle.model.proofs.Meaning.{seven-there}
 use Rattle.model.proofs.Rules.{Rules, Keeps, keeps-facts, ArrivalTaken}
@@ -123,3 +124,21 @@ outcome design x store call = go (refusal design x store call) refl
     go : (n : ℕ) → refusal design x store call ≡ n → Outcome design x store call (answer n x store call)
     go zero e = was-accepted (accepted-facts design x store call e)
     go (suc n) e = was-refused n e
+
+-- A list of which no slot is accepted leaves state and store as they came.
+abbrev LeftAsGiven : Design → State → List ℕ → State → List ℕ → List Call → Type 0
+LeftAsGiven design x store y left calls =
+    (lastState design y left calls ≡ x) × (lastStore design y left calls ≡ store)
+
+pub none-accepted : (design : Design) (x : State) (store : List ℕ) (calls : List Call)
+    → accepted (run design x store calls) ≡ [] → LeftAsGiven design x store x store calls
+none-accepted design x store [] e = (refl, refl)
+none-accepted design x store (call ∷ calls) e =
+    go (slot design x store call) (outcome design x store call) (none-accepted design x store calls) e
+  where
+    go : (a : Answer) → Outcome design x store call a
+        → (accepted (run design x store calls) ≡ [] → LeftAsGiven design x store x store calls)
+        → accepted (stepOf x store call a ∷ run design (a .state) (a .store) calls) ≡ []
+        → LeftAsGiven design x store (a .state) (a .store) calls
+    go a (was-refused n r) rest e = rest (rw (ne-eqb (suc n) 0 (λ z. omega arith)) at e)
+    go a (was-accepted f) rest e = absurd (let z : suc _ ≡ 0 = ap (length {A = Step}) e in omega (arith, z))

@@ -1,17 +1,17 @@
 -- A cache as its queues see it: what appending, removing the oldest and refilling do to the values of each queue, and
 -- the fill as the sum over the queues.
 use mathlib.Core.Path.{_≡_, refl, ap, sym, _∙_, subst}
-use mathlib.Core.Bool.{false}
+use mathlib.Core.Bool.{true, false}
 use mathlib.Core.List.{List, [], _∷_, _++_}
 use Prim.Native.Nat.{ℕ, zero, suc, _+_, _-_, _<_, _≤_}
 use native.Mathlib.Omega.{arith}
 use lib.Dec.{eqb}
 use lib.ListN.{length, drop, length-append, length-drop}
-use borrow.Author.Tests.{eqb-true}
-use Rattle.model.specs.Words.{choose, All}
-use Rattle.model.specs.State.{Byte, valuesOf, countOf}
+use borrow.Author.Tests.{eqb-true, ltb-true, lt-ltb}
+use Rattle.model.specs.Words.{choose, allOf, All}
+use Rattle.model.specs.State.{Byte, valuesOf, countOf, byteBelow}
 use Rattle.model.specs.Slot.{without, bytesFor}
-use Rattle.model.proofs.Words.{by-test, eqb-same}
+use Rattle.model.proofs.Words.{by-test, eqb-same, all-of-facts, all-of-holds}
 use Rattle.model.proofs.Sums.{sum, sum-zero, sum-shift}
 
 pub values-append : (q : ℕ) (xs ys : List Byte) → valuesOf q (xs ++ ys) ≡ valuesOf q xs ++ valuesOf q ys
@@ -95,9 +95,17 @@ length-without-le (suc n) q (x ∷ xs) =
     (λ t. rw t (omega (arith, length-without-le n q xs)))
     (λ t. rw t (omega (arith, length-without-le (suc n) q xs)))
 
--- All bytes are of queues below n.
+-- All bytes are of queues below n; as a test, of n or of any greater number.
 abbrev pub Below : ℕ → List Byte → Type 0
 Below n xs = All (λ (x : Byte). x .queue < n) xs
+
+pub below-facts : (n : ℕ) (xs : List Byte) → allOf (byteBelow n) xs ≡ true → Below n xs
+below-facts n xs e =
+    all-of-facts (byteBelow n) (λ (x : Byte). x .queue < n) (λ x t. ltb-true (x .queue) n t) xs e
+
+pub below-holds : (n m : ℕ) → n ≤ m → (xs : List Byte) → Below n xs → allOf (byteBelow m) xs ≡ true
+below-holds n m h xs v =
+    all-of-holds (byteBelow m) (λ (x : Byte). x .queue < n) (λ x l. lt-ltb (x .queue) m (omega (arith, h, l))) xs v
 
 pub below-for : (n q : ℕ) → q < n → (vs : List ℕ) → Below n (bytesFor q vs)
 below-for n q l [] = tt

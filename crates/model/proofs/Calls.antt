@@ -1,6 +1,6 @@
 -- What a call that keeps a slot's promise answers: the slot's own refusal, or its own acceptance with marks of the
 -- call's choice. The slot itself keeps its promise, so that a list of slots is a chain of calls.
-use mathlib.Core.Path.{_≡_, refl, ap, sym, _∙_, subst}
+use mathlib.Core.Path.{_≡_, refl, ap, sym, subst}
 use mathlib.Core.List.{List, [], _∷_}
 use mathlib.Core.Option.{Option}
 use Prim.Native.Nat.{ℕ, suc, _≤_}
@@ -34,12 +34,10 @@ pub data Told (design : Design) (x : State) (store : List ℕ) (call : Call) : A
 pub answer-is : (a c : Answer) → c .number ≡ a .number → c .delivered ≡ a .delivered → c .written ≡ a .written
     → c .read ≡ a .read → c .state ≡ a .state → c .store ≡ a .store → c ≡ a
 answer-is a c e₁ e₂ e₃ e₄ e₅ e₆ =
-    ap (λ (z : ℕ). made z (c .delivered) (c .written) (c .read) (c .state) (c .store)) e₁
-    ∙ ap (λ (z : Option Byte). made (a .number) z (c .written) (c .read) (c .state) (c .store)) e₂
-    ∙ ap (λ (z : Option ℕ). made (a .number) (a .delivered) z (c .read) (c .state) (c .store)) e₃
-    ∙ ap (λ (z : Option ℕ). made (a .number) (a .delivered) (a .written) z (c .state) (c .store)) e₄
-    ∙ ap (λ (z : State). made (a .number) (a .delivered) (a .written) (a .read) z (c .store)) e₅
-    ∙ ap (λ (z : List ℕ). made (a .number) (a .delivered) (a .written) (a .read) (a .state) z) e₆
+    let parts-alike :
+    made (c .number) (c .delivered) (c .written) (c .read) (c .state) (c .store)
+    ≡ made (a .number) (a .delivered) (a .written) (a .read) (a .state) (a .store) = cc in
+    parts-alike
   where
     made : ℕ → Option Byte → Option ℕ → Option ℕ → State → List ℕ → Answer
     made n d w r x st = record { number = n; delivered = d; written = w; read = r; state = x; store = st }

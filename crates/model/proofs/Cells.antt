@@ -7,9 +7,9 @@ use native.Mathlib.Omega.{arith}
 use lib.Dec.{eqb}
 use lib.ListN.{length, replicate, drop}
 use borrow.Author.Tests.{eqb-true, ltb-true, lt-ltb}
-use Rattle.model.specs.Words.{All}
+use Rattle.model.specs.Words.{allOf, All}
 use Rattle.model.specs.State.{Cell, empty, held, owed, owes, owedOf, cellBelow}
-use Rattle.model.proofs.Words.{by-test, eqb-same}
+use Rattle.model.proofs.Words.{by-test, eqb-same, all-of-facts, all-of-holds}
 use Rattle.model.proofs.Sums.{sum, sum-zero, sum-shift}
 
 pub owed-append : (q : ℕ) (xs ys : List Cell) → owedOf q (xs ++ ys) ≡ owedOf q xs + owedOf q ys
@@ -19,7 +19,7 @@ owed-append q (x ∷ xs) ys = omega (arith, owed-append q xs ys)
 pub owed-here : (q : ℕ) (cells : List Cell) → owedOf q (owed q ∷ cells) ≡ suc (owedOf q cells)
 owed-here q cells = rw (eqb-same q) (omega arith)
 
--- All cells are of queues below n.
+-- All cells are of queues below n; as a test, of n or of any greater number.
 abbrev pub CellBelow : ℕ → Cell → Type 0
 CellBelow n empty = Unit {0}
 CellBelow n (held q v) = q < n
@@ -28,15 +28,21 @@ CellBelow n (owed q) = q < n
 abbrev pub CellsBelow : ℕ → List Cell → Type 0
 CellsBelow n cells = All (CellBelow n) cells
 
-pub cell-below-fact : (n : ℕ) (c : Cell) → cellBelow n c ≡ true → CellBelow n c
-cell-below-fact n empty e = tt
-cell-below-fact n (held q v) e = ltb-true q n e
-cell-below-fact n (owed q) e = ltb-true q n e
+pub cells-below-facts : (n : ℕ) (cells : List Cell) → allOf (cellBelow n) cells ≡ true → CellsBelow n cells
+cells-below-facts n cells e = all-of-facts (cellBelow n) (CellBelow n) one cells e
+  where
+    one : (c : Cell) → cellBelow n c ≡ true → CellBelow n c
+    one empty t = tt
+    one (held q v) t = ltb-true q n t
+    one (owed q) t = ltb-true q n t
 
-pub cell-below-holds : (n : ℕ) (c : Cell) → CellBelow n c → cellBelow n c ≡ true
-cell-below-holds n empty h = refl
-cell-below-holds n (held q v) h = lt-ltb q n h
-cell-below-holds n (owed q) h = lt-ltb q n h
+pub cells-below-holds : (n m : ℕ) → n ≤ m → (cells : List Cell) → CellsBelow n cells → allOf (cellBelow m) cells ≡ true
+cells-below-holds n m h cells w = all-of-holds (cellBelow m) (CellBelow n) one cells w
+  where
+    one : (c : Cell) → CellBelow n c → cellBelow m c ≡ true
+    one empty l = refl
+    one (held q v) l = lt-ltb q m (omega (arith, h, l))
+    one (owed q) l = lt-ltb q m (omega (arith, h, l))
 
 pub cells-below-drop : (n : ℕ) (cells : List Cell) → CellsBelow n cells → CellsBelow n (drop 1 cells)
 cells-below-drop n [] h = h

@@ -16,45 +16,23 @@ use borrow.Author.Tests.{eqb-true, eqb-false, le-ltb}
 use Rattle.model.specs.Words.{choose, update, All}
 use Rattle.model.specs.Sizes.{Design, storeBytes}
 use Rattle.model.specs.State.{Byte, Cell, empty, held, owed, State, countOf, headBytes}
-use Rattle.model.specs.Slot.{Call, oldestCell, deliveryOf, headWithout, moves, fullest, queueToWrite}
+use Rattle.model.specs.Slot.{oldestCell, deliveryOf, headWithout, moves, fullest, queueToWrite}
 use Rattle.model.specs.Slot.{storeWritten, tailWritten, ringsWritten, refillQueue, queueToRead, headRead}
 use Rattle.model.specs.Slot.{ringsRead, asked, wrote, wroteStore, refilled, headFull, Answer, accept, refuse}
 use Rattle.model.specs.Slot.{answer, refusal, slot}
-use Rattle.model.specs.Lists.{Step, stepOf, run, lastState, lastStore}
-use Rattle.model.specs.Demand.{idles}
-use Rattle.model.specs.Idle.{idle, turned, quietly, NothingToMove, Quiet, AllQuiet, QuietStep}
+use Rattle.model.specs.Calls.{idle, idles}
+use Rattle.model.specs.Lists.{Step, run, lastState, lastStore}
+use Rattle.model.specs.Idle.{turned, quietly, NothingToMove, Quiet, AllQuiet, QuietStep}
 use Rattle.model.proofs.Words.{by-test}
 use Rattle.model.proofs.Meaning.{move-writes-fullest, no-move-no-write, move-reads-scan, no-move-no-read}
-use Rattle.model.proofs.Marks.{remarked, withMarks}
+use Rattle.model.proofs.States.{same-state}
 use Rattle.model.proofs.Rules.{Keeps, keeps-holds}
 use Rattle.model.proofs.Kept.{slot-kept}
 use Rattle.model.proofs.Calls.{answer-is}
 
--- A list of slots in two parts: the second goes on from what the first left.
-pub last-append : (design : Design) (x : State) (store : List ℕ) (calls more : List Call)
-    → lastState design x store (calls ++ more)
-    ≡ lastState design (lastState design x store calls) (lastStore design x store calls) more
-last-append design x store [] more = refl
-last-append design x store (call ∷ calls) more =
-    last-append design (slot design x store call .state) (slot design x store call .store) calls more
-
-pub last-store-append : (design : Design) (x : State) (store : List ℕ) (calls more : List Call)
-    → lastStore design x store (calls ++ more)
-    ≡ lastStore design (lastState design x store calls) (lastStore design x store calls) more
-last-store-append design x store [] more = refl
-last-store-append design x store (call ∷ calls) more =
-    last-store-append design (slot design x store call .state) (slot design x store call .store) calls more
-
-pub run-append : (design : Design) (x : State) (store : List ℕ) (calls more : List Call)
-    → run design x store (calls ++ more)
-    ≡ run design x store calls ++ run design (lastState design x store calls) (lastStore design x store calls) more
-run-append design x store [] more = refl
-run-append design x store (call ∷ calls) more =
-    ap (λ (steps : List Step). stepOf x store call (slot design x store call) ∷ steps)
-    (run-append design (slot design x store call .state) (slot design x store call .store) calls more)
-
-pub idles-plus : (m n : ℕ) → idles (m + n) ≡ idles m ++ idles n
-idles-plus m n = sym (replicate-append-replicate m n idle)
+-- n idle slots are i of them and then j.
+pub idles-parts : (n i j : ℕ) → n ≡ i + j → idles n ≡ idles i ++ idles j
+idles-parts n i j parts = ap idles parts ∙ sym (replicate-append-replicate i j idle)
 
 -- An empty cell is nothing to the scan, at either end.
 scan-skips-first : (credits : ℕ → ℕ) (cells : List Cell) → oldestCell cells ≡ empty
@@ -78,15 +56,6 @@ scan-shifted credits cells e = scan-skips-last credits (drop 1 cells) ∙ scan-s
 oldest-empty : (cells : List Cell) → getD cells 0 empty ≡ empty → oldestCell cells ≡ empty
 oldest-empty [] e = refl
 oldest-empty (cell ∷ cells) e = e
-
--- A state from its parts, the marks among them.
-pub same-state : (x y : State) → x .sizes ≡ y .sizes → x .phase ≡ y .phase → x .tail ≡ y .tail → x .head ≡ y .head
-    → x .cells ≡ y .cells → x .rings ≡ y .rings → x .tailMark ≡ y .tailMark → x .headMark ≡ y .headMark → x ≡ y
-same-state x y a b c d e f m n =
-    ap (λ (k : ℕ). withMarks k (x .headMark) x) m
-    ∙ ap (λ (k : ℕ). withMarks (y .tailMark) k x) n
-    ∙ remarked x y (record
-    { same-sizes = a; same-phase = b; same-tail = c; same-head = d; same-cells = e; same-rings = f })
 
 -- The phase after one slot.
 phase-turns : (x : State) → x .phase < x .sizes .b → choose (moves x) 0 (x .phase + 1) ≡ (x .phase + 1) % x .sizes .b
@@ -362,21 +331,18 @@ pub record StuckAt (design : Design) (x : State) (store : List ℕ) (n number : 
   pub store-is : lastStore design x store (idles n) ≡ store
   pub steps-refused : All (λ (step : Step). step .number ≡ number) (run design x store (idles n))
 
-pub stuck-slots : (design : Design) (x : State) (store : List ℕ) (k : ℕ) → refusal design x store idle ≡ suc k
-    → (n : ℕ) → StuckAt design x store n (suc k)
-stuck-slots design x store k e zero = record { state-is = refl; store-is = refl; steps-refused = tt }
-stuck-slots design x store k e (suc n) = next (stuck-slots design x store k e n)
+pub stuck-slots : (design : Design) (x : State) (store : List ℕ) (k : ℕ) → slot design x store idle ≡ refuse k x store
+    → (n : ℕ) → StuckAt design x store n k
+stuck-slots design x store k refused zero = record { state-is = refl; store-is = refl; steps-refused = tt }
+stuck-slots design x store k refused (suc n) = next (stuck-slots design x store k refused n)
   where
-    refused : slot design x store idle ≡ refuse (suc k) x store
-    refused = ap (λ (m : ℕ). answer m x store idle) e
-
-    next : StuckAt design x store n (suc k) → StuckAt design x store (suc n) (suc k)
+    next : StuckAt design x store n k → StuckAt design x store (suc n) k
     next others = record {
       state-is = ap (λ (a : Answer). lastState design (a .state) (a .store) (idles n)) refused ∙ others .state-is;
       store-is = ap (λ (a : Answer). lastStore design (a .state) (a .store) (idles n)) refused ∙ others .store-is;
       steps-refused = (
         ap (λ (a : Answer). a .number) refused,
-        subst (λ (a : Answer). All (λ (step : Step). step .number ≡ suc k) (run design (a .state) (a .store) (idles n)))
+        subst (λ (a : Answer). All (λ (step : Step). step .number ≡ k) (run design (a .state) (a .store) (idles n)))
             (sym refused) (others .steps-refused),
       );
     }

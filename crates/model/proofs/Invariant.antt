@@ -69,7 +69,7 @@ invariant-delivered p x l e v = record {
 }
 
 -- 2. The arriving byte joins the tail.
-length-arriving : (arrival : Option Byte) → length (arriving arrival) ≤ 1
+pub length-arriving : (arrival : Option Byte) → length (arriving arrival) ≤ 1
 length-arriving none = omega arith
 length-arriving (some y) = omega arith
 

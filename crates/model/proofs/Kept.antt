@@ -1,6 +1,5 @@
--- An accepted slot keeps the rules of the state and the store's length, and changes no byte outside the block that it
--- writes. It rests on the refusals alone, so it holds from every state that keeps the rules and for any number of
--- cells.
+-- An accepted slot keeps the rules of the state and the store's length. It rests on the refusals alone, so it holds
+-- from every state that keeps the rules and for any number of cells.
 use mathlib.Core.Path.{_≡_, refl, ap, sym, _∙_, subst}
 use mathlib.Core.Bool.{false}
 use mathlib.Core.List.{List, [], _∷_, _++_}
@@ -76,12 +75,12 @@ placed-outside place values store h i out =
         ∙ ap (λ (j : ℕ). getD store j 0) (sym e)
 
 -- Fills along a slot.
-length-head-without : (c : Cell) (head : List Byte) → length (headWithout c head) ≤ length head
+pub length-head-without : (c : Cell) (head : List Byte) → length (headWithout c head) ≤ length head
 length-head-without empty head = omega arith
 length-head-without (held q v) head = omega arith
 length-head-without (owed q) head = length-without-le 1 q head
 
-length-tail-written : (x : State) (o : Option ℕ) → length (tailWritten o x) ≤ length (x .tail)
+pub length-tail-written : (x : State) (o : Option ℕ) → length (tailWritten o x) ≤ length (x .tail)
 length-tail-written x none = omega arith
 length-tail-written x (some q) = length-without-le (x .sizes .b) q (x .tail)
 
@@ -110,19 +109,32 @@ read-scan z q e =
 pub read-taken : (n : ℕ) (z : State) → Rules n z → ReadTaken z (queueToRead z)
 read-taken n z v q e = scan-taken n z v q (read-scan z q e)
 
+-- The block that is written has b bytes, and its place is in the store.
+module _ (n : ℕ) (y : State) (q : ℕ) (store : List ℕ) (taken : (q < y .sizes .Q) × (y .sizes .b ≤ tailBytes y q))
+    (v : Rules n y) (long : storeBytes (y .sizes) ≤ length store) where
+  abbrev blockValues : List ℕ
+  blockValues = take (y .sizes .b) (valuesOf q (y .tail))
+
+  pub values-long : length blockValues ≡ y .sizes .b
+  values-long = omega (arith, length-take (y .sizes .b) (valuesOf q (y .tail)), taken .1)
+
+  pub values-fit : blockPlace (y .sizes) q (nextBlock y q) + length blockValues ≤ length store
+  values-fit =
+      omega (
+        arith,
+        values-long,
+        long,
+        place-fits (y .sizes .Q) (y .sizes .K) (y .sizes .b) q (nextBlock y q) (taken .0)
+            (mod-lt (ringOf (y .rings) q .first + ringOf (y .rings) q .count) (omega (arith, v .firsts q (taken .0)))),
+      )
+
 -- The write keeps the store's length.
 pub store-length : (n : ℕ) (y : State) (o : Option ℕ) (store : List ℕ) → WriteTaken y o → Rules n y
     → storeBytes (y .sizes) ≤ length store → length (storeWritten o y store) ≡ length store
 store-length n y none store f v h = refl
 store-length n y (some q) store f v h =
     length-placed (blockPlace (y .sizes) q (nextBlock y q)) (take (y .sizes .b) (valuesOf q (y .tail))) store
-    (omega (
-      arith,
-      length-take (y .sizes .b) (valuesOf q (y .tail)),
-      f q refl .1,
-      place-fits (y .sizes .Q) (y .sizes .K) (y .sizes .b) q (nextBlock y q) (f q refl .0)
-          (mod-lt (ringOf (y .rings) q .first + ringOf (y .rings) q .count) (omega (arith, v .firsts q (f q refl .0)))),
-    ))
+    (values-fit n y q store (f q refl) v h)
 
 -- The rules along a slot: after each step, with n cells and one fewer between steps 1 and 3.
 module _ (design : Design) (x : State) (store : List ℕ) (call : Call)
@@ -137,6 +149,9 @@ module _ (design : Design) (x : State) (store : List ℕ) (call : Call)
 
   pub rules-2 : Rules (cellsFull - 1) (joined x call)
   rules-2 = rules-arrived (cellsFull - 1) (afterDelivery x) (call .arrival) (j .arrival-ok) rules-1
+
+  pub tail-joined : length (joined x call .tail) ≤ tailSize (x .sizes)
+  tail-joined = length-joined x (call .arrival) (j .kept .tail-fits) (j .tail-room)
 
   pub rules-3 : Rules cellsFull (asked x call)
   rules-3 =
@@ -209,9 +224,9 @@ module _ (design : Design) (x : State) (store : List ℕ) (call : Call)
       phase-ok = next-phase x (j .kept .phase-ok);
       within = rules-phase (design .cellCount (x .sizes)) (refilled x store call)
           (rules-refilled design x store call cells-ok j);
-      tail-fits = omega (arith, tail-low, tail-joined);
+      tail-fits = omega (arith, tail-low, joined-fits);
       head-fits = head-fits′;
-      tail-mark = (omega (arith, tail-low), omega (arith, tail-joined, j .kept .tail-mark));
+      tail-mark = (omega (arith, tail-low), omega (arith, joined-fits, j .kept .tail-mark));
       head-mark = (omega arith, omega (arith, head-fits′, j .kept .head-mark));
     };
     same-sizes = refl;
@@ -221,8 +236,8 @@ module _ (design : Design) (x : State) (store : List ℕ) (call : Call)
       j : Judged design x store call
       j = a .judged
 
-      tail-joined : length (joined x call .tail) ≤ tailSize (x .sizes)
-      tail-joined = length-joined x (call .arrival) (j .kept .tail-fits) (j .tail-room)
+      joined-fits : length (joined x call .tail) ≤ tailSize (x .sizes)
+      joined-fits = tail-joined design x store call cells-ok j
 
       tail-low : length (wrote x call .tail) ≤ length (joined x call .tail)
       tail-low =
@@ -245,52 +260,3 @@ module _ (design : Design) (x : State) (store : List ℕ) (call : Call)
       go : (a : Answer) → Outcome design x store call a → Kept design x store a
       go a (was-refused n e) = record { kept = v; same-sizes = refl; same-length = refl }
       go a (was-accepted f) = accept-kept f
-
--- "Bytes beyond, and bytes of blocks not being written, never change."
-pub record StoreElsewhere (x : State) (store : List ℕ) (a : Answer) : Type 0 where
-  pub not-written : a .written ≡ none → a .store ≡ store
-  pub outside :
-      (q : ℕ) → a .written ≡ some q
-      → (i : ℕ) → ((blockPlace (x .sizes) q (nextBlock x q) ≤ i) ×
-      (i < blockPlace (x .sizes) q (nextBlock x q) + x .sizes .b) → ⊥)
-      → getD (a .store) i 0 ≡ getD store i 0
-
-module _ (design : Design) (x : State) (store : List ℕ) (call : Call)
-    (cells-ok : 1 ≤ design .cellCount (x .sizes)) where
-  written-outside : (y : State) (o : Option ℕ) → WriteTaken y o → Rules (design .cellCount (x .sizes)) y
-      → storeBytes (y .sizes) ≤ length store
-      → (q : ℕ) → o ≡ some q
-      → (i : ℕ) → ((blockPlace (y .sizes) q (nextBlock y q) ≤ i) ×
-      (i < blockPlace (y .sizes) q (nextBlock y q) + y .sizes .b) → ⊥)
-      → getD (storeWritten o y store) i 0 ≡ getD store i 0
-  written-outside y o f v h q e i out =
-      ap (λ (p : Option ℕ). getD (storeWritten p y store) i 0) e
-      ∙ placed-outside place values store
-      (omega (
-        arith,
-        size,
-        h,
-        place-fits (y .sizes .Q) (y .sizes .K) (y .sizes .b) q (nextBlock y q) (f q e .0)
-            (mod-lt (ringOf (y .rings) q .first + ringOf (y .rings) q .count) (omega (arith, v .firsts q (f q e .0)))),
-      ))
-      i (λ k. out (k .0, omega (arith, size, k .1)))
-    where
-      place : ℕ
-      place = blockPlace (y .sizes) q (nextBlock y q)
-
-      values : List ℕ
-      values = take (y .sizes .b) (valuesOf q (y .tail))
-
-      size : length values ≡ y .sizes .b
-      size = omega (arith, length-take (y .sizes .b) (valuesOf q (y .tail)), f q e .1)
-
-  pub store-elsewhere : StoreElsewhere x store (slot design x store call)
-  store-elsewhere = go (slot design x store call) (outcome design x store call)
-    where
-      go : (a : Answer) → Outcome design x store call a → StoreElsewhere x store a
-      go a (was-refused n e) = record { not-written = λ w. refl; outside = λ q w i out. refl }
-      go a (was-accepted f) = record {
-        not-written = λ w. ap (λ (o : Option ℕ). storeWritten o (asked x call) store) w;
-        outside = written-outside (asked x call) (queueToWrite (asked x call)) (write-taken (asked x call))
-            (rules-3 design x store call cells-ok (f .judged)) (f .judged .store-long);
-      }

@@ -1,7 +1,8 @@
 -- The theory of the model: laws of its definitions, and demand 3. Each file opens with what it shows and why.
 
--- Words, sums over queues, caches and lookahead as each queue sees them.
+-- Words, the limits, sums over queues, caches and lookahead as each queue sees them.
 pub mod Words
+pub mod Limits
 pub mod Sums
 pub mod Bytes
 pub mod Cells
@@ -10,13 +11,17 @@ pub mod Meaning
 pub mod Fullest
 pub mod Scan
 pub mod Margin
+pub mod States
 pub mod Marks
 -- One slot: refused or accepted, and what an accepted one keeps.
 pub mod Rings
 pub mod Rules
 pub mod Accepted
 pub mod Kept
+pub mod Elsewhere
 pub mod Calls
+-- Lists of slots in two parts.
+pub mod Lists
 -- Many idle slots as one shift of the cells and one turn of the phase.
 pub mod Idle
 pub mod QuietCount
@@ -37,5 +42,6 @@ pub mod MissingFill
 pub mod Missing
 -- Demand 3.
 pub mod Demand
--- The paper's numbers, computed.
+-- The paper's examples and its numbers at their ends, computed.
+pub mod Examples
 pub mod Numbers

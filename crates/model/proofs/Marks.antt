@@ -6,12 +6,14 @@ use mathlib.Core.List.{List}
 use mathlib.Core.Option.{Option, some, none}
 use Prim.Native.Nat.{ℕ, zero, suc}
 use Rattle.model.specs.Sizes.{Sizes, Design}
-use Rattle.model.specs.State.{Byte, Cell, empty, held, owed, Ring, State, keeps, SameButMarks}
+use Rattle.model.specs.State.{Byte, Cell, empty, held, owed, State, keeps, SameButMarks}
 use Rattle.model.specs.Slot.{Call, oldestCell, delivery, afterDelivery, afterArrival, afterRequest}
 use Rattle.model.specs.Slot.{queueToWrite, afterWrite, storeWritten, queueToRead, afterRead, afterPhase, joined}
 use Rattle.model.specs.Slot.{asked, wrote, wroteStore, refilled, arrivalUnknown, arrivalFull, requestUnknown}
 use Rattle.model.specs.Slot.{nothingToTake, leavesUncovered, tailFull, headFull, refusal, Answer, accept}
 use Rattle.model.specs.Slot.{answer, slot}
+use Rattle.model.proofs.States.{stateOf}
+use Rattle.model.proofs.States as states
 
 -- Two answers that are the same but for the marks of the states that they leave.
 pub record AgreeButMarks (a c : Answer) : Type 0 where
@@ -22,27 +24,13 @@ pub record AgreeButMarks (a c : Answer) : Type 0 where
   pub same-state : SameButMarks (a .state) (c .state)
   pub same-store : a .store ≡ c .store
 
-abbrev pub stateOf : Sizes → ℕ → List Byte → List Byte → List Cell → List Ring → ℕ → ℕ → State
-stateOf s p t h c r m n = record
-    { sizes = s; phase = p; tail = t; head = h; cells = c; rings = r; tailMark = m; headMark = n }
-
 abbrev pub withMarks : ℕ → ℕ → State → State
 withMarks m n x = stateOf (x .sizes) (x .phase) (x .tail) (x .head) (x .cells) (x .rings) m n
 
 pub remarked : (x y : State) → SameButMarks x y → withMarks (y .tailMark) (y .headMark) x ≡ y
 remarked x y s =
-    ap (λ (z : Sizes). stateOf z (x .phase) (x .tail) (x .head) (x .cells) (x .rings) m n) (s .same-sizes)
-    ∙ ap (λ (z : ℕ). stateOf (y .sizes) z (x .tail) (x .head) (x .cells) (x .rings) m n) (s .same-phase)
-    ∙ ap (λ (z : List Byte). stateOf (y .sizes) (y .phase) z (x .head) (x .cells) (x .rings) m n) (s .same-tail)
-    ∙ ap (λ (z : List Byte). stateOf (y .sizes) (y .phase) (y .tail) z (x .cells) (x .rings) m n) (s .same-head)
-    ∙ ap (λ (z : List Cell). stateOf (y .sizes) (y .phase) (y .tail) (y .head) z (x .rings) m n) (s .same-cells)
-    ∙ ap (λ (z : List Ring). stateOf (y .sizes) (y .phase) (y .tail) (y .head) (y .cells) z m n) (s .same-rings)
-  where
-    m : ℕ
-    m = y .tailMark
-
-    n : ℕ
-    n = y .headMark
+    states.same-state (withMarks (y .tailMark) (y .headMark) x) y (s .same-sizes) (s .same-phase) (s .same-tail)
+    (s .same-head) (s .same-cells) (s .same-rings) refl refl
 
 -- A fact of every state that is the same but for its marks.
 by-marks : (P : State → Type 0) (x y : State) → SameButMarks x y → ((m n : ℕ) → P (withMarks m n x)) → P y

@@ -19,13 +19,15 @@ use Rattle.model.specs.State.{ringOf, blocks}
 use Rattle.model.specs.Slot.{Call, oldestCell, headWithout, isOwed, youngestCell, tailLeft, moves, queueToWrite}
 use Rattle.model.specs.Slot.{queueToRead, blockAt, afterRead, afterPhase, joined, asked, wrote, wroteStore}
 use Rattle.model.specs.Slot.{requestUnknown, nothingToTake, leavesUncovered, headFull}
-use Rattle.model.specs.Demand.{requestsFrom, idles}
+use Rattle.model.specs.Calls.{idles}
+use Rattle.model.specs.Demand.{requestsFrom}
 use Rattle.model.proofs.Words.{by-test, by-zero, by-option, at-queue, eqb-same}
 use Rattle.model.proofs.Sums.{sum, sum-bound, sum-bound-zero, sum-shift}
 use Rattle.model.proofs.Bytes.{sum-counts, count-refilled}
 use Rattle.model.proofs.Cells.{owed-append, owed-empties}
 use Rattle.model.proofs.Rings.{ring-set-same, ring-set-other, block-length, times-pred}
-use Rattle.model.proofs.Rules.{Rules, ReadTaken, count-head-without, positive-sizes}
+use Rattle.model.proofs.Limits.{within-limits}
+use Rattle.model.proofs.Rules.{Rules, ReadTaken, count-head-without}
 use Rattle.model.proofs.Accepted.{earlyRefusals}
 use Rattle.model.proofs.Kept.{write-taken, read-taken}
 use Rattle.model.proofs.MissingSlots.{Meets8, Ready, stateAfter, storeAfter, span-and-queues, queues-in-span}
@@ -306,7 +308,7 @@ pub requests : (limits : Limits) (n k e : ℕ) (gone : ℕ → ℕ) (x : State) 
     → ((q : ℕ) → gone q ≡ 0)
     → Meets8 limits x store (requestsFrom k n ++ idles (span (x .sizes)))
 requests limits zero zero e gone x store ready v cells-are queues room none-gone =
-    absurd (omega (arith, queues, positive-sizes limits (x .sizes) (ready .kept .sizes-ok)))
+    absurd (omega (arith, queues, within-limits limits (x .sizes) (ready .kept .sizes-ok) .q-low))
 requests limits zero (suc k) e gone x store ready v cells-are queues room none-gone =
     drain limits (span (x .sizes)) e 0 k [] gone x store ready (rw zero-add at v) (cells-are ∙ sym (append-nil _))
     (omega (arith, queues)) room (λ q l. absurd (omega (arith, l)))

@@ -16,7 +16,8 @@ use Rattle.model.specs.State.{Byte, byte, Cell, empty, Ring, ring, State
 use Rattle.model.specs.State.{ringOf, blocks}
 use Rattle.model.specs.Slot.{Call, without, oldestCell, moves, fullest, queueToWrite, afterWrite, queueToRead}
 use Rattle.model.specs.Slot.{afterRead, afterPhase, asked, wrote}
-use Rattle.model.specs.Demand.{blockOfArrivals, fillFrom, requestsFrom, idles}
+use Rattle.model.specs.Calls.{idles}
+use Rattle.model.specs.Demand.{blockOfArrivals, fillFrom, requestsFrom}
 use Rattle.model.proofs.Words.{by-test, by-option, at-queue, eqb-same}
 use Rattle.model.proofs.Sums.{sum-ones}
 use Rattle.model.proofs.Cells.{owed-empties}

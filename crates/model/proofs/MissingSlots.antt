@@ -17,7 +17,8 @@ use Rattle.model.specs.Lists.{run}
 use Rattle.model.specs.Demand.{answers8}
 use Rattle.model.proofs.Words.{last-refusal}
 use Rattle.model.proofs.Rings.{times-pred}
-use Rattle.model.proofs.Rules.{Rules, Keeps, keeps-holds, positive-sizes}
+use Rattle.model.proofs.Limits.{within-limits}
+use Rattle.model.proofs.Rules.{Rules, Keeps, keeps-holds}
 use Rattle.model.proofs.Accepted.{Judged, earlyRefusals, judged-facts, accepted-facts}
 use Rattle.model.proofs.Kept.{Kept, accept-kept, rules-written, still-long}
 
@@ -55,7 +56,7 @@ module _ (limits : Limits) (x : State) (store : List ℕ) (ready : Ready limits 
   cells-some =
       omega (
         arith,
-        positive-sizes limits (x .sizes) (ready .kept .sizes-ok),
+        within-limits limits (x .sizes) (ready .kept .sizes-ok) .q-low,
         queues-in-span (x .sizes)
             (ready .block-two),
       )

@@ -5,7 +5,7 @@ use mathlib.Core.Bool.{false}
 use mathlib.Core.List.{List}
 use Prim.Native.Nat.{ℕ, zero, suc, _+_, _-_, _*_, _<_, _≤_}
 use native.Mathlib.Omega.{arith}
-use native.Mathlib.Nat.{mul-le-mul-right}
+use native.Mathlib.Nat.{mul-le-mul-left, mul-le-mul-right, mul-comm}
 use lib.Dec.{eqb, ltb}
 use lib.ListN.{length, drop, set, replicate, length-take, length-drop, length-replicate, getD-replicate}
 use lib.ListN.{List·getD-eq-default}
@@ -47,6 +47,13 @@ block-length s store q k l m h =
       length-drop (blockPlace s q k) store,
       place-fits (s .Q) (s .K) (s .b) q k l m,
     )
+
+-- A queue with a block of tail bytes has fewer than K blocks.
+pub fewer-blocks : (tails b n K : ℕ) → 1 ≤ b → b ≤ tails → tails + b * n ≤ K * b → n < K
+fewer-blocks tails b n K pos h r =
+    by-test (ltb n K)
+    (λ t. ltb-true n K t)
+    (λ t. absurd (omega (arith, mul-le-mul-left b (ltb-false n K t), mul-comm K b)))
 
 -- b times one block fewer.
 pub times-pred : (b n : ℕ) → 1 ≤ n → b * (n - 1) + b ≡ b * n

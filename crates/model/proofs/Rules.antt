@@ -1,6 +1,6 @@
 -- Each step of an accepted slot keeps the rules of the state; and the rules as a test are the rules as facts.
-use mathlib.Core.Path.{_≡_, refl, ap, subst}
-use mathlib.Core.Bool.{true, false}
+use mathlib.Core.Path.{_≡_, refl, ap, sym, _∙_, subst}
+use mathlib.Core.Bool.{true, false, not, Bool·not-not}
 use mathlib.Core.List.{List, [], _∷_, _++_}
 use mathlib.Core.Option.{Option, some, none}
 use Prim.Native.Nat.{ℕ, zero, suc, _+_, _-_, _*_, _%_, _<_, _≤_}
@@ -9,20 +9,20 @@ use native.Mathlib.Nat.{mod-lt}
 use lib.Dec.{eqb}
 use lib.ListN.{length, drop, set, getD, length-append, length-drop, length-set, length-replicate}
 use borrow.Author.Tests.{eqb-true, eq-eqb, leb-true, le-leb, ltb-true, lt-ltb}
-use Rattle.model.specs.Words.{choose, allOf}
-use Rattle.model.specs.Sizes.{Sizes, Limits, sizeRules, Design, accepts, tailSize, headSize, storeBytes}
+use Rattle.model.specs.Words.{choose}
+use Rattle.model.specs.Sizes.{Sizes, Design, accepts, tailSize, headSize, storeBytes}
 use Rattle.model.specs.State.{Byte, Cell, empty, held, owed, Ring, ring, State, fresh, countOf, owes, owedOf}
-use Rattle.model.specs.State.{tailBytes, headBytes, owedCells, ringOf, blocks, byteBelow, cellBelow}
-use Rattle.model.specs.State.{firstInRange, hasRoom, isBacked, rules, keeps}
+use Rattle.model.specs.State.{tailBytes, headBytes, owedCells, ringOf, blocks}
+use Rattle.model.specs.State.{firstInRange, hasRoom, isBacked, rules, keeps, makingNumber}
 use Rattle.model.specs.Slot.{without, oldestCell, headWithout, afterDelivery, afterArrival, isOwed, heldCell}
 use Rattle.model.specs.Slot.{youngestCell, tailLeft, oldestOf, afterRequest, afterWrite, refillQueue, bytesFor}
 use Rattle.model.specs.Slot.{blockAt, afterRead, afterPhase}
 use Rattle.model.proofs.Words.{by-test, at-queue, eqb-same, and-both, between-facts, between-holds}
-use Rattle.model.proofs.Words.{all-of-facts, all-of-holds, all-append, all-below-facts, all-below-holds}
-use Rattle.model.proofs.Words.{all-true-at}
-use Rattle.model.proofs.Bytes.{Below, below-for, below-without, length-without-le, count-append}
-use Rattle.model.proofs.Bytes.{count-one-same, count-one-other, count-without, count-refilled}
-use Rattle.model.proofs.Cells.{CellBelow, CellsBelow, cell-below-fact, cell-below-holds, cells-below-drop}
+use Rattle.model.proofs.Words.{all-append, all-below-facts, all-below-holds, all-true-at, when-zero}
+use Rattle.model.proofs.Limits.{within-limits}
+use Rattle.model.proofs.Bytes.{Below, below-facts, below-holds, below-for, below-without, length-without-le}
+use Rattle.model.proofs.Bytes.{count-append, count-one-same, count-one-other, count-without, count-refilled}
+use Rattle.model.proofs.Cells.{CellBelow, CellsBelow, cells-below-facts, cells-below-holds, cells-below-drop}
 use Rattle.model.proofs.Cells.{owed-append, owed-below, owed-empties, cells-below-empties}
 use Rattle.model.proofs.Meaning.{fresh-cells, held-takes-from-tail, owed-leaves-tail}
 use Rattle.model.proofs.Scan.{scan-some}
@@ -54,11 +54,9 @@ keeps-facts design x e = record {
   sizes-ok = rule 0;
   phase-ok = ltb-true (x .phase) (x .sizes .b) (rule 1);
   within = record {
-    tail-below = all-of-facts (byteBelow Q) (λ (y : Byte). y .queue < Q) (λ y t. ltb-true (y .queue) Q t) (x .tail)
-        (rule 7);
-    head-below = all-of-facts (byteBelow Q) (λ (y : Byte). y .queue < Q) (λ y t. ltb-true (y .queue) Q t) (x .head)
-        (rule 8);
-    cells-below = all-of-facts (cellBelow Q) (CellBelow Q) (cell-below-fact Q) (x .cells) (rule 9);
+    tail-below = below-facts Q (x .tail) (rule 7);
+    head-below = below-facts Q (x .head) (rule 8);
+    cells-below = cells-below-facts Q (x .cells) (rule 9);
     cells-long = eqb-true (length (x .cells)) (design .cellCount (x .sizes)) (rule 2);
     rings-long = eqb-true (length (x .rings)) Q (rule 3);
     firsts = λ q l. ltb-true (ringOf (x .rings) q .first) (x .sizes .K)
@@ -91,9 +89,9 @@ keeps-holds design x v =
     (v .tail-mark .1))
     (and-both _ _ (between-holds (length (x .head)) (x .headMark) (headSize (x .sizes)) (v .head-mark .0)
     (v .head-mark .1))
-    (and-both _ _ (bytes (x .tail) (v .within .tail-below))
-    (and-both _ _ (bytes (x .head) (v .within .head-below))
-    (and-both _ _ (all-of-holds (cellBelow Q) (CellBelow Q) (cell-below-holds Q) (x .cells) (v .within .cells-below))
+    (and-both _ _ (below-holds Q Q (omega arith) (x .tail) (v .within .tail-below))
+    (and-both _ _ (below-holds Q Q (omega arith) (x .head) (v .within .head-below))
+    (and-both _ _ (cells-below-holds Q Q (omega arith) (x .cells) (v .within .cells-below))
     (and-both _ _ (le-leb (length (x .tail)) (tailSize (x .sizes)) (v .tail-fits))
     (and-both _ _ (le-leb (length (x .head)) (headSize (x .sizes)) (v .head-fits))
     (and-both _ _ (all-below-holds Q (hasRoom x) (λ q l. le-leb _ (x .sizes .K * x .sizes .b) (v .within .room q l)))
@@ -103,21 +101,10 @@ keeps-holds design x v =
     Q : ℕ
     Q = x .sizes .Q
 
-    bytes : (xs : List Byte) → Below Q xs → allOf (byteBelow Q) xs ≡ true
-    bytes xs h = all-of-holds (byteBelow Q) (λ (y : Byte). y .queue < Q) (λ y l. lt-ltb (y .queue) Q l) xs h
-
--- Accepted sizes are 1 or more. It is all that the theory uses of the limits.
-pub record Positive (s : Sizes) : Type 0 where
-  pub q-positive : 1 ≤ s .Q
-  pub b-positive : 1 ≤ s .b
-  pub k-positive : 1 ≤ s .K
-
-pub positive-sizes : (limits : Limits) (s : Sizes) → accepts limits s ≡ true → Positive s
-positive-sizes limits s e = record {
-  q-positive = between-facts 1 (s .Q) (limits .mostQueues) (all-true-at (sizeRules limits s) 0 e) .0;
-  b-positive = between-facts 1 (s .b) (limits .mostBlockBytes) (all-true-at (sizeRules limits s) 1 e) .0;
-  k-positive = between-facts 1 (s .K) (limits .mostRingBlocks) (all-true-at (sizeRules limits s) 2 e) .0;
-}
+-- Sizes of which a state is made are accepted.
+pub made-accepted : (design : Design) (s : Sizes) → makingNumber design s ≡ 0 → accepts (design .limits) s ≡ true
+made-accepted design s e =
+    sym (Bool·not-not (accepts (design .limits) s)) ∙ ap not (when-zero (not (accepts (design .limits) s)) 0 e)
 
 -- A fresh state keeps them.
 pub rules-fresh : (design : Design) (s : Sizes) → 1 ≤ s .K → Rules (design .cellCount s) (fresh design s)
@@ -135,8 +122,8 @@ rules-fresh design s hk = record {
 pub keeps-fresh : (design : Design) (s : Sizes) → accepts (design .limits) s ≡ true → Keeps design (fresh design s)
 keeps-fresh design s e = record {
   sizes-ok = e;
-  phase-ok = positive-sizes (design .limits) s e .b-positive;
-  within = rules-fresh design s (positive-sizes (design .limits) s e .k-positive);
+  phase-ok = within-limits (design .limits) s e .b-low;
+  within = rules-fresh design s (within-limits (design .limits) s e .k-low);
   tail-fits = omega arith;
   head-fits = omega arith;
   tail-mark = (omega arith, omega arith);

@@ -16,12 +16,7 @@ use Rattle.model.specs.State.{Byte, valuesOf}
 use Rattle.model.specs.Slot.{asByte, arriving}
 use Rattle.model.specs.Lists.{Step, deliveries, arrivalsOf, requestsOf, dueTo, dueAt}
 use Rattle.model.specs.Demand.{FixedDelay, Sentences}
-use Rattle.model.proofs.Words.{by-test}
-
-getD-tabulate : {A : Type 0} (n : ℕ) (f : ℕ → A) (t : ℕ) (d : A) → t < n → getD (tabulate n f) t d ≡ f t
-getD-tabulate zero f t d l = absurd (omega arith)
-getD-tabulate (suc n) f zero d l = refl
-getD-tabulate (suc n) f (suc t) d l = getD-tabulate n (λ i. f (suc i)) t d (omega arith)
+use Rattle.model.proofs.Words.{by-test, tabulate-at}
 
 -- The first L places of a line, and the places after them, of what is cut to n places.
 module _ (L n : ℕ) (owed : ℕ → Option Byte) where
@@ -37,7 +32,7 @@ module _ (L n : ℕ) (owed : ℕ → Option Byte) where
       ∙ ap (λ (i : ℕ). getD (replicate L none ++ tabulate n owed) i none)
       (let e : t + L ≡ length (replicate L nothing) + t = omega (arith, length-replicate L nothing) in e)
       ∙ getD-append-add (replicate L none) (tabulate n owed) t none
-      ∙ getD-tabulate n owed t none (omega arith)
+      ∙ tabulate-at n owed t none (omega arith)
 
   pub line-first : (t : ℕ) → t < L → getD line t none ≡ none
   line-first t l =

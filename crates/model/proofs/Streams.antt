@@ -8,7 +8,7 @@ use mathlib.Core.List.{List, [], _∷_, _++_, append-assoc, append-nil}
 use mathlib.Core.Option.{Option, some, none}
 use Prim.Native.Nat.{ℕ, zero, suc, _+_, _-_, _*_, _<_, _≤_, _%_}
 use native.Mathlib.Omega.{arith}
-use native.Mathlib.Nat.{mod-lt, mul-le-mul-right}
+use native.Mathlib.Nat.{mod-lt}
 use lib.Dec.{eqb, ltb}
 use lib.ListN.{length, drop, take, getElem?, length-append, length-take, length-drop, take-append-drop}
 use lib.ListN.{drop-of-length-le, List·getD-eq-default}
@@ -27,7 +27,7 @@ use Rattle.model.proofs.Words.{by-test, positive, at-queue, eqb-same}
 use Rattle.model.proofs.Bytes.{values-append, values-for-same, values-for-other, values-without-same}
 use Rattle.model.proofs.Bytes.{values-without-other}
 use Rattle.model.proofs.Cells.{owed-append, owed-here, owed-above}
-use Rattle.model.proofs.Rings.{ring-set-same, ring-set-other, place-fits, block-length}
+use Rattle.model.proofs.Rings.{ring-set-same, ring-set-other, place-fits, block-length, fewer-blocks}
 use Rattle.model.proofs.Rules.{Rules, owed-oldest, count-head-without}
 use Rattle.model.proofs.Store.{ring-places-apart, ring-longer, ring-length, ring-same, block-written}
 use Rattle.model.proofs.Store.{block-untouched, block-numbers-apart}
@@ -332,12 +332,6 @@ first-in-range n x q v h =
     (λ t. rw (List·getD-eq-default (x .rings) (ring 0 0) {n = q}
     (omega (arith, v .rings-long, ltb-false q (x .sizes .Q) t))) h)
 
-fewer-blocks : (n b K : ℕ) → 1 ≤ b → b * suc n ≤ K * b → n < K
-fewer-blocks n b K pos h =
-    by-test (ltb n K)
-    (λ t. ltb-true n K t)
-    (λ t. absurd (omega (arith, pos, h, mul-le-mul-right {m = K} b (ltb-false n K t))))
-
 module _ (n : ℕ) (x : State) (q : ℕ) (store : List ℕ) (taken : (q < x .sizes .Q) × (x .sizes .b ≤ tailBytes x q))
     (pos : 1 ≤ x .sizes .b) (long : storeBytes (x .sizes) ≤ length store) (v : Rules n x) where
   abbrev values : List ℕ
@@ -376,7 +370,8 @@ module _ (n : ℕ) (x : State) (q : ℕ) (store : List ℕ) (taken : (q < x .siz
   )
 
   place-free : old .count < x .sizes .K
-  place-free = fewer-blocks (old .count) (x .sizes .b) (x .sizes .K) pos (omega (arith, v .room q (taken .0), taken .1))
+  place-free =
+      fewer-blocks (tailBytes x q) (x .sizes .b) (old .count) (x .sizes .K) pos (taken .1) (v .room q (taken .0))
 
   block-kept : (p k : ℕ) → k < x .sizes .K → ((p ≡ q) × (k ≡ place) → ⊥)
       → blockAt (x .sizes) store′ p k ≡ blockAt (x .sizes) store p k

@@ -6,9 +6,9 @@ use mathlib.Core.Option.{Option, some, none}
 use Prim.Native.Nat.{ℕ, zero, suc, _≤_, _<_}
 use native.Mathlib.Omega.{arith}
 use lib.Dec.{eqb, leb}
-use lib.ListN.{getD}
+use lib.ListN.{length, getD}
 use borrow.Author.Tests.{eqb-true, eqb-false, eq-eqb, leb-true, le-leb}
-use Rattle.model.specs.Words.{update, between, allTrue, allOf, allBelow, All, when, firstRefusal}
+use Rattle.model.specs.Words.{update, between, allTrue, allOf, allBelow, All, tabulate, when, firstRefusal}
 
 -- Cases of a value, each with the equation that it stands for.
 pub by-test : {A : Type 0} (t : Bool) → (t ≡ true → A) → (t ≡ false → A) → A
@@ -69,6 +69,21 @@ between-facts low n high e =
 pub between-holds : (low n high : ℕ) → low ≤ n → n ≤ high → between low n high ≡ true
 between-holds low n high h k = and-both (leb low n) (leb n high) (le-leb low n h) (le-leb n high k)
 
+-- A test of all elements: at each place, and of one element more.
+pub all-of-at : {A : Type 0} (test : A → Bool) (xs : List A) (i : ℕ) (d : A) → allOf test xs ≡ true → i < length xs
+    → test (getD xs i d) ≡ true
+all-of-at test [] i d e l = absurd (omega arith)
+all-of-at test (x ∷ xs) zero d e l = and-left (test x) (allOf test xs) e
+all-of-at test (x ∷ xs) (suc i) d e l = all-of-at test xs i d (and-right (test x) (allOf test xs) e) (omega arith)
+
+pub all-of-more : {A : Type 0} (test : A → Bool) (xs : List A) (y : A) → allOf test xs ≡ true → test y ≡ true
+    → allOf test (xs ++ y ∷ []) ≡ true
+all-of-more test [] y e f = and-both (test y) true f refl
+all-of-more test (x ∷ xs) y e f =
+    and-both (test x) (allOf test (xs ++ y ∷ []))
+    (and-left (test x) (allOf test xs) e)
+    (all-of-more test xs y (and-right (test x) (allOf test xs) e) f)
+
 -- A test of all elements, as a fact of all elements.
 pub all-of-facts : {A : Type 0} (test : A → Bool) (P : A → Type 0) → ((x : A) → test x ≡ true → P x)
     → (xs : List A) → allOf test xs ≡ true → All P xs
@@ -104,6 +119,12 @@ pub all-true-at : (ts : List Bool) (i : ℕ) → allTrue ts ≡ true → getD ts
 all-true-at [] i e = refl
 all-true-at (t ∷ ts) zero e = and-left t (allTrue ts) e
 all-true-at (t ∷ ts) (suc i) e = all-true-at ts i (and-right t (allTrue ts) e)
+
+-- The list f 0, f 1, .., f (n - 1) at a place.
+pub tabulate-at : {A : Type 0} (n : ℕ) (f : ℕ → A) (i : ℕ) (d : A) → i < n → getD (tabulate n f) i d ≡ f i
+tabulate-at zero f i d l = absurd (omega arith)
+tabulate-at (suc n) f zero d l = refl
+tabulate-at (suc n) f (suc i) d l = tabulate-at n (λ j. f (suc j)) i d (omega arith)
 
 -- Where there is no refusal, none of the list is one.
 pub no-refusal-at : (ns : List ℕ) (i : ℕ) → firstRefusal ns ≡ 0 → getD ns i 0 ≡ 0

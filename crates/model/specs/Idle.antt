@@ -10,12 +10,8 @@ use lib.ListN.{length, drop, replicate, getD}
 use Rattle.model.specs.Words.{choose}
 use Rattle.model.specs.Sizes.{Sizes, lookahead}
 use Rattle.model.specs.State.{Cell, empty, held, owed, State, tailBytes, headBytes}
-use Rattle.model.specs.Slot.{Call, fullest, refillQueue}
+use Rattle.model.specs.Slot.{fullest, refillQueue}
 use Rattle.model.specs.Lists.{Step}
-
--- One idle slot; `idles n` of Demand.antt is n of them.
-abbrev pub idle : Call
-idle = record { arrival = none; request = none }
 
 -- The state after m slots that only turn the phase.
 abbrev pub turned : ℕ → State → State

@@ -1,11 +1,13 @@
 -- The slot buffer of document 01, as definitions. Sizes, State, Slot and Lists render its sections in its order; Words
 -- has what they share, Ideal the buffer as a user thinks of it, Demand the statements of demand 3, Idle what idle slots
--- come to.
+-- come to, Examples the paper's table of examples.
 pub mod Words
 pub mod Sizes
 pub mod State
 pub mod Slot
+pub mod Calls
 pub mod Lists
 pub mod Ideal
 pub mod Demand
 pub mod Idle
+pub mod Examples

@@ -61,7 +61,7 @@ afterDelivery x = record {
 }
 
 -- 2. "The arriving byte joins the tail." A mark rises with its fill: the paper leaves it free between fill and cache
--- size, the model takes the greatest fill so far, and no promise speaks of that choice.
+-- size, the model takes the greatest fill so far, and no promise of a whole slot speaks of that choice.
 abbrev pub arriving : Option Byte → List Byte
 arriving none = []
 arriving (some y) = y ∷ []

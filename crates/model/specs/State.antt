@@ -2,7 +2,6 @@
 use mathlib.Core.Path.{_≡_}
 use mathlib.Core.Bool.{Bool, true, not}
 use mathlib.Core.List.{List, [], _∷_}
-use mathlib.Core.Option.{Option, some, none}
 use Prim.Native.Nat.{ℕ, _+_, _*_, _≤_}
 use lib.Dec.{eqb, ltb, leb}
 use lib.IntN.{ℤ, pos, _-ℤ_}
@@ -62,9 +61,6 @@ fresh design s = record {
 -- "1: sizes outside the limits: no state made." "A making of a state checks 1 only."
 abbrev pub makingNumber : Design → Sizes → ℕ
 makingNumber design s = when (not (accepts (design .limits) s)) 1
-
-abbrev pub made : Design → Sizes → Option State
-made design s = choose (accepts (design .limits) s) (some (fresh design s)) none
 
 -- The values of one queue in a cache, oldest first, and how many they are.
 abbrev pub valuesOf : ℕ → List Byte → List ℕ

@@ -1,8 +1,7 @@
+-- `demand_3` meets its contract: it is the theorem of Demand.
 use Rattle.model.proofs.Demand.{demand-3}
 use Rattle.model.proofs.demand_3.Statement.{statement}
 use Rattle.model.proofs.demand_3.Tie as tie
-use Rattle.model.proofs.demand_3.Reads as reads
-use Rattle.model.proofs.demand_3.Lts as lts
 
 returns : tie.Need-returns
 returns c = demand-3

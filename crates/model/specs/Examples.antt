@@ -1,0 +1,179 @@
+-- Document 01, "Examples": C1 to C12 as one table. A row stands under the sentence that it renders and has the
+-- sentence's numbers in the sentence's order; `holds` says what each kind of row claims.
+use mathlib.Core.Bool.{Bool, true, false, _&&_}
+use mathlib.Core.List.{List, [], _∷_, map}
+use mathlib.Core.Option.{Option, some, none}
+use Prim.Native.Nat.{ℕ, _-_}
+use lib.Dec.{eqb}
+use lib.ListN.{length, replicate, getD}
+use Rattle.model.specs.Words.{allTrue}
+use Rattle.model.specs.Sizes.{Sizes, sizes, lookahead, tailSize, headSize, storeBytes, Design, paper, oneFewer}
+use Rattle.model.specs.Sizes.{paperLimits, sizingNumber, sizedBlock}
+use Rattle.model.specs.State.{Byte, byte, Cell, empty, held, owed, ring, State, fresh, makingNumber, owes}
+use Rattle.model.specs.Slot.{Call, oldestCell, Answer, slot}
+use Rattle.model.specs.Calls.{arrival, request, both, idle}
+
+-- What a slot is to answer. Each also says which block moves: none, but for the write or the read that it names.
+pub data Outcome : Type 0 where
+  taken : Outcome
+  -- Taken, and the block of this queue that moves.
+  writes : ℕ → Outcome
+  reads : ℕ → Outcome
+  -- Taken, and the youngest cell is Held, with this queue and byte.
+  takenHeld : ℕ → ℕ → Outcome
+  refused : ℕ → Outcome
+  -- Refused with 8, and the cell that was to leave is Owed to this queue.
+  misses : ℕ → Outcome
+
+-- A slot of a list beside its outcome.
+infix 70 _⇒_
+pub data Line : Type 0 where
+  _⇒_ : Call → Outcome → Line
+
+-- The kinds of row. The last one is a list of slots in a design, from a state.
+pub data Example : Type 0 where
+  sizesTaken : (Q b K L : ℕ) → Example
+  sizesRefused : (Q b K number : ℕ) → Example
+  sizesAre : (Q b L tail head : ℕ) → Example
+  blockIs : (rate grade b : ℕ) → Example
+  noBlock : (rate grade number : ℕ) → Example
+  slots : Design → State → List Line → Example
+
+-- A made state, with what a sentence may name of it; blocks are by queue. The rest is as in a fresh state, but for the
+-- marks: they must be at least the fills, and they are the fills.
+infix 70 made_phase_tail_head_cells_blocks_
+abbrev pub made_phase_tail_head_cells_blocks_ : Sizes → ℕ → List Byte → List Byte → List Cell → List ℕ → State
+made s phase p tail ts head hs cells cs blocks ns = record {
+  sizes = s;
+  phase = p;
+  tail = ts;
+  head = hs;
+  cells = cs;
+  rings = map (ring 0) ns;
+  tailMark = length ts;
+  headMark = length hs;
+}
+
+-- Tests: two numbers or none are the same; a cell is Held with this queue and byte; the youngest of some cells.
+abbrev same : Option ℕ → Option ℕ → Bool
+same none none = true
+same none (some n) = false
+same (some m) none = false
+same (some m) (some n) = eqb m n
+
+abbrev isHeld : ℕ → ℕ → Cell → Bool
+isHeld q v empty = false
+isHeld q v (held p w) = eqb p q && eqb w v
+isHeld q v (owed p) = false
+
+abbrev youngestOf : List Cell → Cell
+youngestOf cs = getD cs (length cs - 1) empty
+
+-- A slot's answer has this number, and these are the queues written and read.
+abbrev answers : ℕ → Option ℕ → Option ℕ → Answer → Bool
+answers number written read a = allTrue (
+    eqb (a .number) number ∷
+    same (a .written) written ∷
+    same (a .read) read ∷ [])
+
+-- A refused slot hands its state back as given, so that the cell that was to leave is there still.
+abbrev meets : Outcome → Answer → Bool
+meets taken a = answers 0 none none a
+meets (writes q) a = answers 0 (some q) none a
+meets (reads q) a = answers 0 none (some q) a
+meets (takenHeld q v) a = answers 0 none none a && isHeld q v (youngestOf (a .state .cells))
+meets (refused n) a = answers n none none a
+meets (misses q) a = answers 8 none none a && eqb (owes q (oldestCell (a .state .cells))) 1
+
+-- Each slot has its outcome, and gets state and store as the one before left them.
+abbrev allMeet : Design → State → List ℕ → List Line → Bool
+allMeet design x store [] = true
+allMeet design x store ((call ⇒ outcome) ∷ lines) =
+    let a = slot design x store call in meets outcome a && allMeet design (a .state) (a .store) lines
+
+-- What rests on Q and b alone is taken with K 1. A list of slots gets a store that is just long enough.
+abbrev pub holds : Example → Bool
+holds (sizesTaken q b k l) = eqb (makingNumber paper (sizes q b k)) 0 && eqb (lookahead (sizes q b k)) l
+holds (sizesRefused q b k n) = eqb (makingNumber paper (sizes q b k)) n
+holds (sizesAre q b l t h) = allTrue (
+    eqb (lookahead (sizes q b 1)) l ∷
+    eqb (tailSize (sizes q b 1)) t ∷
+    eqb (headSize (sizes q b 1)) h ∷ [])
+holds (blockIs rate grade b) = eqb (sizingNumber rate grade) 0 && same (sizedBlock rate grade) (some b)
+holds (noBlock rate grade n) = eqb (sizingNumber rate grade) n && same (sizedBlock rate grade) none
+holds (slots design x lines) = allMeet design x (replicate (storeBytes (x .sizes)) 0) lines
+
+-- C1 to C12. Where a sentence names no K, it is 1. A made state keeps the rules and the store is long enough: 3 and 2
+-- are judged first, and no row answers them.
+abbrev pub examples : List Example
+examples =
+    -- C1: "Q 63, b 33, K 1 is taken, L 2,017."
+    sizesTaken 63 33 1 2_017 ∷
+    -- C2: "Q 64, b 33, K 1 answers 1."
+    sizesRefused 64 33 1 1 ∷
+    -- C3: "Q 4, b 3: L 9, tail 11, head 17."
+    sizesAre 4 3 9 11 17 ∷
+    -- C4: "Q 1, b 1: 1, 1, 1."
+    sizesAre 1 1 1 1 1 ∷
+    -- C5: "10 Gb/s, grade 9: b 125."
+    blockIs 10 9 125 ∷
+    -- C6: "51 Gb/s, grade 1: 128."
+    blockIs 51 1 128 ∷
+    -- C7: "52, grade 1: 11."
+    noBlock 52 1 11 ∷
+    -- C8: "Q 1, b 2, K 1: two arrivals are taken, the third answers 5. Once the block has been read, it is taken."
+    -- The second arrival completes the block. It is read on a request, and until it is read 5 stays.
+    slots paper (fresh paper (sizes 1 2 1))
+    (arrival 0 65 ⇒ taken ∷
+    arrival 0 66 ⇒ writes 0 ∷
+    arrival 0 67 ⇒ refused 5 ∷
+    request 0 ⇒ taken ∷
+    arrival 0 67 ⇒ refused 5 ∷
+    idle ⇒ reads 0 ∷
+    arrival 0 67 ⇒ taken ∷ []) ∷
+    -- C9: "empty queue, arrival and request of it in one slot: taken, Held." With b 1 the byte would be a block, and it
+    -- does not go to slow store.
+    slots paper (fresh paper (sizes 1 1 1))
+    (both 0 65 0 ⇒ takenHeld 0 65 ∷ []) ∷
+    -- "The request without the arrival: 7."
+    slots paper (fresh paper (sizes 1 1 1))
+    (request 0 ⇒ refused 7 ∷ []) ∷
+    -- Both of queue 1, with bytes of queue 0 in either cache.
+    slots paper (made (sizes 2 2 1) phase 0 tail (byte 0 66 ∷ []) head (byte 0 65 ∷ [])
+    cells (replicate 3 empty) blocks (0 ∷ 0 ∷ []))
+    (request 1 ⇒ refused 7 ∷
+    both 1 67 1 ⇒ takenHeld 1 67 ∷ []) ∷
+    -- C10: "Q 2, b 2, a block of each queue stored, phase 0: request 1, then 0. The first read is of queue 1, the next
+    -- of queue 0."
+    slots paper (made (sizes 2 2 1) phase 0 tail [] head [] cells (replicate 3 empty) blocks (1 ∷ 1 ∷ []))
+    (request 1 ⇒ taken ∷ request 0 ⇒ reads 1 ∷ idle ⇒ taken ∷ idle ⇒ reads 0 ∷ idle ⇒ taken ∷ []) ∷
+    -- "With 2 cells instead of 3, queue 0 misses."
+    slots (oneFewer paperLimits)
+    (made (sizes 2 2 1) phase 0 tail [] head [] cells (replicate 2 empty) blocks (1 ∷ 1 ∷ []))
+    (request 1 ⇒ taken ∷ request 0 ⇒ reads 1 ∷ idle ⇒ taken ∷ idle ⇒ misses 0 ∷ []) ∷
+    -- Both from a fresh state, where arrivals store the blocks.
+    slots paper (fresh paper (sizes 2 2 1))
+    (arrival 0 65 ⇒ taken ∷ arrival 0 66 ⇒ writes 0 ∷ arrival 1 67 ⇒ taken ∷ arrival 1 68 ⇒ writes 1 ∷
+    request 1 ⇒ taken ∷ request 0 ⇒ reads 1 ∷ idle ⇒ taken ∷ idle ⇒ reads 0 ∷ idle ⇒ taken ∷ []) ∷
+    slots (oneFewer paperLimits) (fresh (oneFewer paperLimits) (sizes 2 2 1))
+    (arrival 0 65 ⇒ taken ∷ arrival 0 66 ⇒ writes 0 ∷ arrival 1 67 ⇒ taken ∷ arrival 1 68 ⇒ writes 1 ∷
+    request 1 ⇒ taken ∷ request 0 ⇒ reads 1 ∷ idle ⇒ taken ∷ idle ⇒ misses 0 ∷ []) ∷
+    -- C11: "a made state, Q 1, b 2, K 1, one block, empty head, oldest cell Owed and the other empty, idle slot: 8."
+    -- It names no phase, so in both; a read in the same slot comes too late.
+    slots paper (made (sizes 1 2 1) phase 0 tail [] head [] cells (owed 0 ∷ empty ∷ []) blocks (1 ∷ []))
+    (idle ⇒ refused 8 ∷ []) ∷
+    slots paper (made (sizes 1 2 1) phase 1 tail [] head [] cells (owed 0 ∷ empty ∷ []) blocks (1 ∷ []))
+    (idle ⇒ refused 8 ∷ []) ∷
+    -- C12: "made states. Q 1, b 2, K 2, three tail bytes, arrival: 9."
+    -- In both phases; a write in the same slot comes too late.
+    slots paper
+    (made (sizes 1 2 2) phase 0 tail (replicate 3 (byte 0 65)) head [] cells (replicate 2 empty) blocks (0 ∷ []))
+    (arrival 0 66 ⇒ refused 9 ∷ []) ∷
+    slots paper
+    (made (sizes 1 2 2) phase 1 tail (replicate 3 (byte 0 65)) head [] cells (replicate 2 empty) blocks (0 ∷ []))
+    (arrival 0 66 ⇒ refused 9 ∷ []) ∷
+    -- "Q 2, b 2, phase 1, four head bytes of queue 1, one block of queue 0, youngest cell Owed to 0 and the others
+    -- empty, idle slot: 10."
+    slots paper (made (sizes 2 2 1) phase 1 tail [] head (replicate 4 (byte 1 65))
+    cells (empty ∷ empty ∷ owed 0 ∷ []) blocks (1 ∷ 0 ∷ []))
+    (idle ⇒ refused 10 ∷ []) ∷ []

@@ -51,7 +51,7 @@ pub fresh-state : (q b k : ℕ) → accepts paperLimits (sizes q b k) ≡ true
     → stateOf (freshState q b k) ≡ fresh paper (sizes q b k)
 fresh-state q b k e =
     same-state (sizes q b k) refl (bytes-none (replicate 2144 0)) (bytes-none (replicate 4034 0))
-    (zero-cells (lookahead (sizes q b k)) 2017 (omega (arith, in-limits (freshState q b k .small) e .span)))
+    (zero-cells (lookahead (sizes q b k)) 2017 (omega (arith, in-limits (freshState q b k .small) e .span-high)))
     (zero-rings q 64)
     refl refl
 

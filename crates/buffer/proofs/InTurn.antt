@@ -3,23 +3,21 @@
 use mathlib.Core.Path.{_≡_, refl, ap, sym, _∙_}
 use mathlib.Core.Bool.{Bool}
 use mathlib.Core.List.{List}
-use mathlib.Core.Option.{Option, some, none}
-use Prim.Native.Nat.{ℕ, _+_, _*_, _<_, _≤_}
-use native.Mathlib.Nat.{mul-le-mul-left, mul-comm}
+use mathlib.Core.Option.{Option, some}
+use Prim.Native.Nat.{ℕ, _<_, _≤_}
 use native.Mathlib.Omega.{arith}
-use lib.Dec.{ltb}
 use lib.ListN.{length, drop}
-use borrow.Author.Tests.{ltb-true, ltb-false}
 use Rattle.model.specs.Sizes.{paper, tailSize, headSize}
-use Rattle.model.specs.State.{Byte, Cell, empty, held, owed, State, tailBytes, blocks}
-use Rattle.model.specs.Slot.{Call, oldestCell, headWithout, afterDelivery, afterArrival, isOwed, afterRequest}
+use Rattle.model.specs.State.{Byte, empty, State, tailBytes, blocks}
+use Rattle.model.specs.Slot.{Call, oldestCell, afterDelivery, afterArrival, isOwed, afterRequest}
 use Rattle.model.specs.Slot.{queueToWrite, afterWrite, storeWritten, queueToRead, afterRead, afterPhase, joined, asked}
-use Rattle.model.specs.Slot.{tailWritten, wrote, wroteStore, refilled, accept}
-use Rattle.model.proofs.Words.{by-test}
-use Rattle.model.proofs.Bytes.{length-without-le}
-use Rattle.model.proofs.Rules.{Rules, positive-sizes, length-tail-left}
+use Rattle.model.specs.Slot.{wrote, wroteStore, refilled, accept}
+use Rattle.model.proofs.Limits.{within-limits}
+use Rattle.model.proofs.Rings.{fewer-blocks}
+use Rattle.model.proofs.Rules.{Rules, length-tail-left}
 use Rattle.model.proofs.Accepted.{Judged, Accepted}
-use Rattle.model.proofs.Kept.{length-joined, write-taken, read-taken, rules-3, rules-written, still-long}
+use Rattle.model.proofs.Kept.{length-head-without, length-tail-written, tail-joined, write-taken, read-taken}
+use Rattle.model.proofs.Kept.{rules-3, rules-written, still-long}
 use Rattle.model.proofs.IdealSlot.{held-before}
 use Rattle.parts.proofs.States.{same-state}
 use Rattle.buffer.specs.Moves.{opened, closed, Fits, DeliverAsks, AskAsks, WriteAsks, ReadAsks}
@@ -80,23 +78,14 @@ module _ (x : State) (store : List ℕ) (call : Call) where
     some-cell : 1 ≤ paper .cellCount (x .sizes)
     some-cell = omega arith
 
-    head-low : (c : Cell) (head : List Byte) → length (headWithout c head) ≤ length head
-    head-low empty head = omega arith
-    head-low (held q v) head = omega arith
-    head-low (owed q) head = length-without-le 1 q head
-
-    written-low : (y : State) (o : Option ℕ) → length (tailWritten o y) ≤ length (y .tail)
-    written-low y none = omega arith
-    written-low y (some q) = length-without-le (y .sizes .b) q (y .tail)
-
     head-fits′ : length (opened x .head) ≤ headSize (x .sizes)
-    head-fits′ = omega (arith, head-low (oldestCell (x .cells)) (x .head), j .kept .head-fits)
+    head-fits′ = omega (arith, length-head-without (oldestCell (x .cells)) (x .head), j .kept .head-fits)
 
-    tail-joined : length (joined x call .tail) ≤ tailSize (x .sizes)
-    tail-joined = length-joined x (call .arrival) (j .kept .tail-fits) (j .tail-room)
+    tail-arrived : length (joined x call .tail) ≤ tailSize (x .sizes)
+    tail-arrived = tail-joined paper x store call some-cell j
 
     tail-asked : length (asked x call .tail) ≤ tailSize (x .sizes)
-    tail-asked = omega (arith, tail-joined, length-tail-left (joined x call) (call .request))
+    tail-asked = omega (arith, tail-arrived, length-tail-left (joined x call) (call .request))
 
     pub deliver-can : DeliverAsks x
     deliver-can = record {
@@ -119,7 +108,7 @@ module _ (x : State) (store : List ℕ) (call : Call) where
     pub ask-can : (owes : Bool) → ((q : ℕ) → call .request ≡ some q → owes ≡ isOwed (joined x call) q)
         → AskAsks (afterArrival (call .arrival) (opened x)) owes (call .request)
     ask-can owes test = record {
-      fits = record { sizes-ok = j .kept .sizes-ok; tail-fits = tail-joined; head-fits = head-fits′ };
+      fits = record { sizes-ok = j .kept .sizes-ok; tail-fits = tail-arrived; head-fits = head-fits′ };
       owes-is = λ q e. test q e ∙ sym (same q);
       byte-there = λ q e f. j .byte-there q e (held-before paper x store call some-cell j q (sym (same q) ∙ f));
     }
@@ -130,13 +119,6 @@ module _ (x : State) (store : List ℕ) (call : Call) where
     abbrev w : Option ℕ
     w = queueToWrite (asked x call)
 
-    -- A queue with a block of tail bytes has fewer than K blocks.
-    fewer-blocks : (tails b n K : ℕ) → 1 ≤ b → b ≤ tails → tails + b * n ≤ K * b → n < K
-    fewer-blocks tails b n K low h r =
-        by-test (ltb n K)
-        (λ t. ltb-true n K t)
-        (λ t. absurd (omega (arith, mul-le-mul-left b (ltb-false n K t), mul-comm K b)))
-
     pub write-can : WriteAsks (asked x call) w store
     write-can = record {
       fits = record { sizes-ok = j .kept .sizes-ok; tail-fits = tail-asked; head-fits = head-fits′ };
@@ -146,7 +128,7 @@ module _ (x : State) (store : List ℕ) (call : Call) where
       first-in = λ q e. rules .firsts q (taken q e .0);
       ring-room = λ q e.
           fewer-blocks (tailBytes (asked x call) q) (x .sizes .b) (blocks (asked x call) q) (x .sizes .K)
-          (positive-sizes (paper .limits) (x .sizes) (j .kept .sizes-ok) .b-positive) (taken q e .1)
+          (within-limits (paper .limits) (x .sizes) (j .kept .sizes-ok) .b-low) (taken q e .1)
           (rules .room q (taken q e .0));
     }
       where
@@ -160,7 +142,7 @@ module _ (x : State) (store : List ℕ) (call : Call) where
     read-can = record {
       fits = record {
         sizes-ok = j .kept .sizes-ok;
-        tail-fits = omega (arith, tail-asked, written-low (asked x call) w);
+        tail-fits = omega (arith, tail-asked, length-tail-written (asked x call) w);
         head-fits = head-fits′;
       };
       store-long = still-long paper x store call some-cell j;

@@ -4,8 +4,6 @@
 pub mod Fresh
 pub mod Promises
 pub mod Demand
--- Many slots in one call.
-pub mod Runs
 -- The steps of a slot one at a time, and that in turn they are the slot.
 pub mod Steps
 pub mod InTurn

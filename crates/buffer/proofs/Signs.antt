@@ -9,6 +9,7 @@ use lib.Signed.{mag, ltZ}
 use borrow.Author.Tests.{ltb-true, ltb-false, lt-ltb, le-ltb}
 use Rattle.model.specs.State.{State, headBytes, owedCells, margin}
 use Rattle.model.proofs.Words.{by-test, true-not-false}
+use Rattle.model.proofs.Margin.{critical-is}
 use Rattle.buffer.specs.Moves.{MarginSays}
 
 -- At or above zero, and below.
@@ -42,7 +43,8 @@ above-means-more h o =
 pub margin-says : (x : State) (q : ℕ) (r : ℤ) → r ≡ margin x q → MarginSays x q r
 margin-says x q r value = record {
   value-is = value;
-  below-zero = ap (λ (z : ℤ). ltZ z (pos 0)) value;
+  is-critical = ap (λ (z : ℤ). ltZ z (pos 0)) value;
+  below-zero = ap (λ (z : ℤ). ltZ z (pos 0)) value ∙ critical-is x q;
   at-zero = λ z. zero-means-equal (headBytes x q) (owedCells x q) (sym value ∙ z);
   zero-at = λ s.
       value

@@ -82,7 +82,7 @@ module _ (s : code.State) where
         (omega (arith, fits .head-fits, head-below-array (x .sizes) (fits .sizes-ok), long))
 
     pub cells-in : length (s .cells) ≡ 2017 → span (x .sizes) < length (s .cells)
-    cells-in long = omega (arith, limits .span, long)
+    cells-in long = omega (arith, limits .span-high, long)
 
     oldest : length (s .cells) ≡ 2017 → oldestCell (x .cells) ≡ cellOf (getD (s .cells) 0 0)
     oldest long = oldest-cell (lookahead (x .sizes)) (s .cells) (omega arith) (omega (arith, cells-in long))

@@ -66,10 +66,11 @@ pub record ReadAsks (x : State) (readQueue : Option ℕ) (store : List ℕ) : Ty
   pub head-room : headFull x readQueue ≡ false
 
 -- "The margin of a queue is its head bytes less its Owed cells. Below zero the queue is critical": the signed value,
--- and what it means below, at and above zero.
+-- and what it means below, at and above zero: the queue has fewer head bytes than Owed cells, as many, or more.
 pub record MarginSays (x : State) (q : ℕ) (r : ℤ) : Type 0 where
   pub value-is : r ≡ margin x q
-  pub below-zero : ltZ r (pos 0) ≡ critical x q
+  pub is-critical : ltZ r (pos 0) ≡ critical x q
+  pub below-zero : ltZ r (pos 0) ≡ ltb (headBytes x q) (owedCells x q)
   pub at-zero : r ≡ pos 0 → headBytes x q ≡ owedCells x q
   pub zero-at : headBytes x q ≡ owedCells x q → r ≡ pos 0
   pub above-zero : ltZ (pos 0) r ≡ ltb (owedCells x q) (headBytes x q)

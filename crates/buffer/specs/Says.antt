@@ -44,8 +44,9 @@ freshState q b k = record {
   counts = replicate 64 0;
 }
 
--- "Accepted sizes give the fresh state": the paper's state and the record itself, every field; sizes outside the limits
--- give 1 and one fixed record. "A fresh state has all L cells empty from the start": each place of the array is.
+-- "A making of a state checks 1 only." Accepted sizes give the fresh state, the paper's and the record itself, every
+-- field; sizes outside the limits give 1 and one fixed record. "A fresh state has all L cells empty from the start":
+-- each place of the array is.
 pub record MakeSays (q b k : ℕ) (r : Made) : Type 0 where
   pub number-is : r .number ≡ makingNumber paper (sizes q b k)
   pub record-is : r .state ≡ choose (accepts paperLimits (sizes q b k)) (freshState q b k) (freshState 0 0 0)

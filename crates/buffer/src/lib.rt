@@ -1,4 +1,4 @@
-// The packet buffer: its state by value, the making of one, the slot, and runs of many slots.
+// The packet buffer: its state by value, the making of one, and the slot.
 ghost use mathlib.Core.Path.{_≡_};
 ghost use mathlib.Core.Bool.{true};
 ghost use Prim.Native.Nat.{_≤_};
@@ -7,7 +7,6 @@ ghost use Rattle.model.specs.Sizes.{paper, storeBytes};
 ghost use Rattle.model.specs.State.{keeps};
 ghost use Rattle.parts.specs.Calls.{callIn};
 ghost use Rattle.parts.specs.Views.{sizesIn};
-ghost use Rattle.buffer.specs.Runs.{RanSays};
 ghost use Rattle.buffer.specs.Demand.{CallsMeet};
 ghost use Rattle.buffer.specs.Says.{stateOf, freshState, MakeSays, SlotSays, StepSays};
 use caches::Chosen;
@@ -16,7 +15,6 @@ use parts::Delivery;
 use parts::Request;
 use parts::Small;
 
-mod idling;
 mod margin;
 pub mod moves;
 
@@ -176,36 +174,6 @@ impl State {
             written: written,
             read: fetched,
         }
-    }
-
-    // Many slots, of any state and any store: as many calls as there are places for their answers.
-    pub fn run(mut self, calls: &[u32], answers: &mut [u64], store: &mut [u8]) -> State
-        ensures { λ r. ⌜ RanSays self (now (calls .entry)) (now (answers .entry)) (now (store .entry)) r
-            (now (answers .exit)) (now (store .exit)) ⌝ }
-    {
-        let small = self.small;
-        let mut tail = self.tail;
-        let mut head = self.head;
-        let mut cells = self.cells;
-        let mut firsts = self.firsts;
-        let mut counts = self.counts;
-        self.small = lists::run(
-            &mut tail,
-            &mut head,
-            &mut cells,
-            &mut firsts,
-            &mut counts,
-            small,
-            calls,
-            answers,
-            store,
-        );
-        self.tail = tail;
-        self.head = head;
-        self.cells = cells;
-        self.firsts = firsts;
-        self.counts = counts;
-        self
     }
 }
 

@@ -1,7 +1,7 @@
 // "The state goes into a slot and is handed back by it": the steps of a slot as methods on the state, each by value and
 // each of the whole state.
 ghost use mathlib.Core.Path.{_≡_};
-ghost use Prim.Native.Nat.{_+_, _-_, _*_, _<_, _≤_, max};
+ghost use Prim.Native.Nat.{_+_, _-_, _*_, _<_, _≤_};
 ghost use lib.ListN.{length};
 ghost use Rattle.model.specs.Slot.{delivery, afterArrival, afterRequest, afterWrite, storeWritten, afterRead};
 ghost use Rattle.model.specs.Slot.{afterPhase};
@@ -21,16 +21,6 @@ use parts::Request;
 pub struct Delivered {
     pub state: State,
     pub delivery: Delivery,
-}
-
-// The larger of two numbers.
-fn larger(a: usize, b: usize) -> usize
-    ensures { λ r. ⌜ r ≡ max a b ⌝ }
-{
-    if a < b {
-        return b;
-    }
-    a
 }
 
 // The oldest of l cells leaves, and an empty one comes in as the youngest.
@@ -69,7 +59,7 @@ impl State {
         let fill = self.small.tail_fill;
         let joined = steps::arrive(&mut self.tail, fill, arrival);
         self.small.tail_fill = joined;
-        self.small.tail_mark = larger(self.small.tail_mark, joined);
+        self.small.tail_mark = numbers::larger(self.small.tail_mark, joined);
         self
     }
 
@@ -129,7 +119,7 @@ impl State {
         self.firsts = firsts;
         self.counts = counts;
         self.small.head_fill = fill;
-        self.small.head_mark = larger(self.small.head_mark, fill);
+        self.small.head_mark = numbers::larger(self.small.head_mark, fill);
         self
     }
 
@@ -138,11 +128,7 @@ impl State {
         requires { ⌜ stateOf self .phase < stateOf self .sizes .b ⌝ }
         ensures { λ r. ⌜ stateOf r ≡ afterPhase (stateOf self) ⌝ }
     {
-        if self.small.phase + 1 == self.small.block {
-            self.small.phase = 0;
-            return self;
-        }
-        let next = self.small.phase + 1;
+        let next = steps::next_phase(self.small.phase, self.small.block);
         self.small.phase = next;
         self
     }

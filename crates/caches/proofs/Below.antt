@@ -1,31 +1,16 @@
 -- All queues of the first n entries are below a number: from one entry to the next, and what one beyond it decides.
-use mathlib.Core.Path.{_≡_, refl, sym}
-use mathlib.Core.Bool.{Bool, true, false}
-use mathlib.Core.List.{List, [], _∷_, _++_}
-use Prim.Native.Nat.{ℕ, zero, suc, _+_, _/_, _≤_, _<_}
+use mathlib.Core.Path.{_≡_, sym}
+use mathlib.Core.Bool.{true, false}
+use mathlib.Core.List.{List}
+use Prim.Native.Nat.{ℕ, _+_, _/_, _≤_, _<_}
 use native.Mathlib.Omega.{arith}
 use lib.ListN.{length, getD}
 use borrow.Author.Tests.{lt-ltb, ltb-true}
 use Rattle.model.specs.Words.{allOf}
-use Rattle.model.specs.State.{Byte, byteBelow}
-use Rattle.model.proofs.Words.{by-test, and-both, and-left, and-right}
+use Rattle.model.specs.State.{byteBelow}
+use Rattle.model.proofs.Words.{by-test, all-of-at, all-of-more}
 use Rattle.caches.specs.Views.{byteOf, bytesIn}
 use Rattle.caches.proofs.Entries.{bytes-none, bytes-length, byte-at, bytes-more}
-
--- A test of all elements holds at each place, and of one element more where it holds of that one.
-all-of-at : (test : Byte → Bool) (xs : List Byte) (i : ℕ) (d : Byte) → allOf test xs ≡ true → i < length xs
-    → test (getD xs i d) ≡ true
-all-of-at test [] i d e l = absurd (omega arith)
-all-of-at test (x ∷ xs) zero d e l = and-left (test x) (allOf test xs) e
-all-of-at test (x ∷ xs) (suc i) d e l = all-of-at test xs i d (and-right (test x) (allOf test xs) e) (omega arith)
-
-all-of-more : (test : Byte → Bool) (xs : List Byte) (y : Byte) → allOf test xs ≡ true → test y ≡ true
-    → allOf test (xs ++ y ∷ []) ≡ true
-all-of-more test [] y e f = and-both (test y) true f refl
-all-of-more test (x ∷ xs) y e f =
-    and-both (test x) (allOf test (xs ++ y ∷ []))
-    (and-left (test x) (allOf test xs) e)
-    (all-of-more test xs y (and-right (test x) (allOf test xs) e) f)
 
 -- The entries' queues are below a number, as the bytes' are.
 module _ (queues : ℕ) (xs : List ℕ) where

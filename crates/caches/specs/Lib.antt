@@ -1,3 +1,3 @@
--- Caches, lookahead and counts as arrays hold them, and what the operations on those arrays promise.
+-- Caches and counts as arrays hold them, and what the operations on those arrays promise.
 pub mod Views
 pub mod Says

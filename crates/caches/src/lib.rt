@@ -2,7 +2,7 @@
 // and each contract gives what the array then holds by the model's own definition.
 ghost use mathlib.Core.Path.{_≡_};
 ghost use mathlib.Core.Bool.{true, false};
-ghost use Prim.Native.Nat.{ℕ, _+_, _≤_, _<_};
+ghost use Prim.Native.Nat.{_+_, _≤_, _<_};
 ghost use lib.ListN.{length};
 ghost use Rattle.model.specs.Words.{allOf};
 ghost use Rattle.model.specs.State.{countOf, byteBelow};

@@ -1,7 +1,7 @@
 -- Judging is the reader iterated: the script from an offset on is what `goOn` makes of the next reading, with no
 -- count of steps. A command that is taken has a byte or more and no more than there are, so that what is left is
 -- shorter each time, and any count of steps above the length answers the same.
-use mathlib.Core.Path.{_≡_, refl, ap, sym, _∙_}
+use mathlib.Core.Path.{_≡_, refl, ap, _∙_}
 use mathlib.Core.Bool.{Bool, true, false}
 use mathlib.Core.List.{List, [], _∷_}
 use mathlib.Core.Option.{Option, some, none}
@@ -9,7 +9,7 @@ use Prim.Native.Nat.{ℕ, zero, suc, _+_, _<_, _≤_}
 use native.Mathlib.Omega.{arith}
 use lib.Dec.{ltb}
 use lib.ListN.{length, drop, length-drop}
-use borrow.Author.Tests.{ltb-true, ltb-false, lt-ltb, le-ltb}
+use borrow.Author.Tests.{ltb-false, lt-ltb, le-ltb}
 use Rattle.model.specs.Words.{choose}
 use Rattle.model.proofs.Words.{by-test}
 use Rattle.commands.specs.Commands.{Kind, Command, command, row, isEnd, kindOf, widths, operandsIn}
@@ -26,14 +26,7 @@ taken-same-command c d n m e = cc
 pub taken-same-length : (c d : Command) (n m : ℕ) → taken c n ≡ taken d m → n ≡ m
 taken-same-length c d n m e = cc
 
--- The reader's answers, in the order of judging: no byte, an unknown one, a command out of its place, one cut short,
--- one taken.
-pub reads-nothing : (first : Bool) → readCommand first [] ≡ refused 15
-reads-nothing first = refl
-
-pub reads-unknown : (first : Bool) (bytes : List ℕ) → readCode first none bytes ≡ refused 12
-reads-unknown first bytes = refl
-
+-- The reader's answers where a command's kind is known, in the order of judging: out of its place, cut short, taken.
 pub reads-out-of-place : (first : Bool) (k : Kind) (bytes : List ℕ) → outOfPlace first k ≡ true
     → readKnown first k bytes ≡ refused 14
 reads-out-of-place first k bytes t = rw t
@@ -48,30 +41,50 @@ pub reads-taken : (first : Bool) (k : Kind) (bytes : List ℕ) → outOfPlace fi
     ≡ taken (command k (operandsIn (row k .operands) bytes)) (1 + widths (row k .operands))
 reads-taken first k bytes t h = rw (t, le-ltb (length bytes) (widths (row k .operands)) h)
 
--- A command that is taken has a byte or more, and at most as many as there are.
-known-length : (first : Bool) (k : Kind) (bytes : List ℕ) (c : Command) (n : ℕ)
-    → readKnown first k bytes ≡ taken c n → (1 ≤ n) × (n ≤ suc (length bytes))
-known-length first k bytes c n e =
-    by-test (outOfPlace first k)
-    (λ t. absurd (refused-not-taken 14 c n (sym (reads-out-of-place first k bytes t) ∙ e)))
-    (λ t. by-test (ltb (length bytes) (widths (row k .operands)))
-    (λ u.
-    let short = ltb-true (length bytes) (widths (row k .operands)) u in
-    absurd (refused-not-taken 13 c n (sym (reads-cut-short first k bytes t short) ∙ e)))
-    (λ u.
-    let long = ltb-false (length bytes) (widths (row k .operands)) u in
-    let is-n = taken-same-length _ c _ n (sym (reads-taken first k bytes t long) ∙ e) in
-    (omega (arith, is-n), omega (arith, is-n, long))))
+-- All of the reader's answers, by the bytes that it reads: none, a code of no kind, and those three.
+pub data ReadAs (first : Bool) : List ℕ → Reading → Type 0 where
+  no-byte : ReadAs first [] (refused 15)
+  no-kind : (code : ℕ) (bytes : List ℕ) → ReadAs first (code ∷ bytes) (refused 12)
+  out-of-place : (code : ℕ) (bytes : List ℕ) → ReadAs first (code ∷ bytes) (refused 14)
+  cut-short : (code : ℕ) (bytes : List ℕ) → ReadAs first (code ∷ bytes) (refused 13)
+  takes : (code : ℕ) (bytes : List ℕ) (k : Kind) → outOfPlace first k ≡ false → widths (row k .operands) ≤ length bytes
+      → ReadAs first (code ∷ bytes)
+      (taken (command k (operandsIn (row k .operands) bytes)) (1 + widths (row k .operands)))
 
-code-length : (first : Bool) (found : Option Kind) (bytes : List ℕ) (c : Command) (n : ℕ)
-    → readCode first found bytes ≡ taken c n → (1 ≤ n) × (n ≤ suc (length bytes))
-code-length first none bytes c n e = absurd (refused-not-taken 12 c n (sym (reads-unknown first bytes) ∙ e))
-code-length first (some k) bytes c n e = known-length first k bytes c n e
+pub read-as : (first : Bool) (bytes : List ℕ) → ReadAs first bytes (readCommand first bytes)
+read-as first [] = no-byte
+read-as first (code ∷ bytes) = by-kind (kindOf code)
+  where
+    by-kind : (found : Option Kind) → ReadAs first (code ∷ bytes) (readCode first found bytes)
+    by-kind none = no-kind code bytes
+    by-kind (some k) =
+        by-test (outOfPlace first k)
+        (λ t. rw t (out-of-place code bytes))
+        (λ t. by-test (ltb (length bytes) (widths (row k .operands)))
+        (λ u. rw (t, u) (cut-short code bytes))
+        (λ u. rw (t, u) (takes code bytes k t (ltb-false (length bytes) (widths (row k .operands)) u))))
+
+-- A command that is taken has a byte or more, and at most as many as there are.
+read-length : {first : Bool} {bytes : List ℕ} {r : Reading} → ReadAs first bytes r → (c : Command) (n : ℕ)
+    → r ≡ taken c n → (1 ≤ n) × (n ≤ length bytes)
+read-length no-byte c n e = absurd (refused-not-taken 15 c n e)
+read-length (no-kind code bytes) c n e = absurd (refused-not-taken 12 c n e)
+read-length (out-of-place code bytes) c n e = absurd (refused-not-taken 14 c n e)
+read-length (cut-short code bytes) c n e = absurd (refused-not-taken 13 c n e)
+read-length (takes code bytes k t long) c n e =
+    let is-n = taken-same-length _ c _ n e in
+    (omega (arith, is-n), omega (arith, is-n, long))
 
 pub taken-length : (first : Bool) (bytes : List ℕ) (c : Command) (n : ℕ)
     → readCommand first bytes ≡ taken c n → (1 ≤ n) × (n ≤ length bytes)
-taken-length first [] c n e = absurd (refused-not-taken 15 c n (sym (reads-nothing first) ∙ e))
-taken-length first (code ∷ bytes) c n e = code-length first (kindOf code) bytes c n e
+taken-length first bytes c n e = read-length (read-as first bytes) c n e
+
+-- So the place behind it lies within the script.
+pub moves-on : (first : Bool) (script : List ℕ) (at : ℕ) (c : Command) (n : ℕ)
+    → readCommand first (drop at script) ≡ taken c n → (1 ≤ n) × (at + n ≤ length script)
+moves-on first script at c n e =
+    let long = taken-length first (drop at script) c n e in
+    (long .0, omega (arith, long .0, long .1, length-drop at script))
 
 -- What comes of a reading asks of the rest only what it is after a command that was taken.
 pub go-on-alike : (r : Reading) (offset : ℕ) (bytes : List ℕ) (rest other : ℕ → Script)

@@ -16,7 +16,7 @@ use Rattle.runs.specs.Says.{wordOf}
 use Rattle.buffer.specs.declared.State as code
 use Rattle.buffer.specs.declared.Made.{Made}
 use Rattle.lists.specs.Says.{runLength, callsRun}
-use Rattle.buffer.specs.Runs.{RanSays}
+use Rattle.batch.specs.Says.{RanSays}
 use Rattle.buffer.specs.Says.{stateOf, MakeSays}
 use Rattle.drive.specs.Says.{DroveSays}
 

@@ -1,22 +1,11 @@
 // The buffer for C and Rust callers, a whole list of slots from a fresh state in each call: for tests and benchmarks
-// from outside. Each answers 0, or 1 where the sizes are refused.
+// from outside. Each answers 0, or 1 where the sizes are refused; 2 where a slot is that the caller knows to be good.
 ghost use mathlib.Core.Path.{_≡_};
-ghost use Prim.Native.Nat.{_≤_};
 ghost use Rattle.drive.specs.Says.{DroveSays};
 use buffer::Slotted;
 use buffer::State;
 use caches::Chosen;
 use parts::Delivery;
-
-// The smaller of two lengths.
-fn smaller(a: usize, b: usize) -> usize
-    ensures { λ r. ⌜ (r ≤ a) × (r ≤ b) ⌝ }
-{
-    if a < b {
-        return a;
-    }
-    b
-}
 
 // A state as the answer of no slot.
 fn at_rest(state: State) -> Slotted
@@ -45,7 +34,7 @@ pub extern "C" fn drive_slots(
     if made.number != 0 {
         return 1;
     }
-    let n = smaller(calls.len(), answers.len());
+    let n = numbers::smaller(calls.len(), answers.len());
     let mut r = at_rest(made.state);
     let mut i: usize = 0;
     while i < n {
@@ -80,7 +69,7 @@ pub extern "C" fn drive_steps(
     if store.len() < queues * blocks * block {
         return 2;
     }
-    let n = smaller(calls.len(), answers.len());
+    let n = numbers::smaller(calls.len(), answers.len());
     let mut r = at_rest(made.state);
     let mut i: usize = 0;
     while i < n {
@@ -117,11 +106,11 @@ pub extern "C" fn drive_run(
         return 1;
     }
     let state = fresh.state;
-    let last = state.run(calls, answers, store);
+    let last = batch::run(state, calls, answers, store);
     0
 }
 
-// All calls in one run, and then so many idle slots by the count.
+// All calls in one run, and then so many idle slots by the count, stretch by stretch.
 #[no_mangle]
 pub extern "C" fn drive_idle(
     queues: usize,
@@ -138,7 +127,15 @@ pub extern "C" fn drive_idle(
         return 1;
     }
     let state = made.state;
-    let reached = state.run(calls, answers, store);
-    let last = reached.idle(idle_slots, store);
+    let mut reached = batch::run(state, calls, answers, store);
+    let mut left = idle_slots;
+    while 0 < left {
+        let stretch = batch::idle(reached, left, store);
+        reached = stretch.state;
+        if stretch.number != 0 {
+            return 2;
+        }
+        left = left - stretch.passed;
+    }
     0
 }

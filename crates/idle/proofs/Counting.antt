@@ -1,37 +1,17 @@
--- A count of quiet slots is one of three numbers, and the numbers that it is made of fit by the paper's limits. A move
--- is due exactly where the code says so.
+-- A count of quiet slots is one of three numbers. A move is due exactly where the code says so.
 use mathlib.Core.Path.{_≡_, refl, ap, sym, _∙_}
 use mathlib.Core.Bool.{Bool, true, false}
 use mathlib.Core.List.{List, [], append-nil}
 use mathlib.Core.Option.{Option, some, none}
-use Prim.Native.Nat.{ℕ, _-_, _*_, _≤_, min}
-use lib.ListN.{drop, getD}
-use borrow.Author.Tests.{leb-true, eq-eqb, ne-eqb}
-use Rattle.model.specs.Sizes.{Sizes, paperLimits, sizeRules, accepts, lookahead}
+use Prim.Native.Nat.{ℕ, _-_, min}
+use lib.ListN.{drop}
+use borrow.Author.Tests.{eq-eqb, ne-eqb}
+use Rattle.model.specs.Sizes.{Sizes, lookahead}
 use Rattle.model.specs.State.{Cell}
 use Rattle.model.specs.Slot.{fullest, refillQueue}
 use Rattle.model.specs.Idle.{leadingEmpties, someQueue, moveDue, quietOf}
-use Rattle.model.proofs.Words.{between-facts, all-true-at}
 use Rattle.model.proofs.QuietCount.{scan-past-empties}
 use Rattle.lookahead.specs.Says.{scanEnds, Scanned}
-
--- The limits of accepted sizes.
-pub record Limited (s : Sizes) : Type 0 where
-  pub queues-fit : s .Q ≤ 64
-  pub some-block : 1 ≤ s .b
-  pub block-fits : s .b ≤ 128
-  pub span-fits : s .Q * (s .b - 1) ≤ 2016
-
-pub limited : (s : Sizes) → accepts paperLimits s ≡ true → Limited s
-limited s e = record {
-  queues-fit = between-facts 1 (s .Q) 64 (rule 0) .1;
-  some-block = between-facts 1 (s .b) 128 (rule 1) .0;
-  block-fits = between-facts 1 (s .b) 128 (rule 1) .1;
-  span-fits = leb-true (s .Q * (s .b - 1)) 2016 (rule 3);
-}
-  where
-    rule : (i : ℕ) → getD (sizeRules paperLimits s) i true ≡ true
-    rule i = all-true-at (sizeRules paperLimits s) i e
 
 -- The three counts.
 module _ (s : Sizes) (phase empties n : ℕ) (due : Bool) where

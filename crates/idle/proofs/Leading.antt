@@ -4,26 +4,17 @@ use mathlib.Core.List.{List, _∷_}
 use Prim.Native.Nat.{ℕ, zero, suc, _+_, _/_, _%_, _≤_, _<_}
 use native.Mathlib.Omega.{arith}
 use lib.ListN.{length, drop, getD, drop-of-length-le}
-use Rattle.model.specs.State.{Cell, empty}
+use Rattle.model.specs.State.{Cell}
 use Rattle.model.specs.Idle.{leadingEmpties}
 use Rattle.model.proofs.QuietCount.{leading-within}
 use Rattle.lookahead.specs.Views.{cellFor, cellOf, cellsIn}
-use Rattle.lookahead.proofs.Cells.{cells-length, cells-from}
-
-kind-leads : (k q v : ℕ) → k < 1 → cellFor k q v ≡ empty
-unfolding cellFor
-kind-leads zero q v h = refl
-kind-leads (suc k) q v h = absurd (omega arith)
+use Rattle.lookahead.proofs.Cells.{cell-empty, cells-length, cells-from}
 
 kind-ends : (k q v : ℕ) (cells : List Cell) → 1 ≤ k → leadingEmpties (cellFor k q v ∷ cells) ≡ 0
 unfolding cellFor
 kind-ends zero q v cells h = absurd (omega arith)
 kind-ends (suc zero) q v cells h = refl
 kind-ends (suc (suc k)) q v cells h = refl
-
-pub cell-empty : (c : ℕ) → c < 65536 → cellOf c ≡ empty
-unfolding cellOf
-cell-empty c h = kind-leads (c / 65536) (c / 256 % 256) (c % 256) (omega arith)
 
 cell-ends : (c : ℕ) (cells : List Cell) → 65536 ≤ c → leadingEmpties (cellOf c ∷ cells) ≡ 0
 unfolding cellOf

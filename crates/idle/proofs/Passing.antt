@@ -9,7 +9,8 @@ use Rattle.model.specs.Sizes.{paper, paperLimits, lookahead, storeBytes}
 use Rattle.model.specs.State.{State, owedOf, tailBytes, headBytes}
 use Rattle.model.specs.Idle.{turned, quietly, NothingToMove, Quiet, leadingEmpties, moveDue, quietOf}
 use Rattle.model.proofs.Rules.{Keeps}
-use Rattle.model.proofs.Idle.{PassedQuietly, same-state}
+use Rattle.model.proofs.States.{same-state}
+use Rattle.model.proofs.Idle.{PassedQuietly}
 use Rattle.model.proofs.QuietCount.{nothing-due, counted-quiet, counted-shift, counted-turn, owed-quietly}
 use Rattle.caches.specs.Views.{countsIn}
 use Rattle.parts.specs.declared.Small.{Small}

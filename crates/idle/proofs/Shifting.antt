@@ -7,9 +7,8 @@ use lib.ListN.{length, drop, set, getD, replicate, length-set, drop-of-length-le
 use lib.Seq.{drop-append-le, getD-set-other}
 use Rattle.model.specs.State.{Cell, empty}
 use Rattle.lookahead.specs.Views.{cellOf, cellsIn}
-use Rattle.lookahead.proofs.Cells.{no-cells, cells-length, cells-more, cells-stored}
+use Rattle.lookahead.proofs.Cells.{cell-empty, no-cells, cells-length, cells-more, cells-stored}
 use Rattle.idle.specs.Says.{MovedDown, Cleared, ShiftedBy}
-use Rattle.idle.proofs.Leading.{cell-empty}
 
 -- The move down before turn i: i cells have moved, and the places from i on are as they were.
 pub record DownTo (i l m : ℕ) (before after : List ℕ) : Type 0 where

@@ -2,7 +2,7 @@
 // come to. Each function has one loop at most.
 ghost use mathlib.Core.Path.{_≡_};
 ghost use mathlib.Core.Bool.{true};
-ghost use Prim.Native.Nat.{_+_, _%_, _≤_, _<_, min};
+ghost use Prim.Native.Nat.{_+_, _%_, _≤_, _<_};
 ghost use lib.ListN.{length};
 ghost use Rattle.model.specs.Words.{allOf};
 ghost use Rattle.model.specs.Sizes.{paperLimits, accepts, lookahead};
@@ -14,6 +14,7 @@ ghost use Rattle.lookahead.specs.Views.{cellsIn};
 ghost use Rattle.parts.specs.Views.{sizesIn};
 ghost use Rattle.idle.specs.Says.{MovedDown, Cleared, ShiftedBy};
 use caches::Chosen;
+use lookahead::HELD;
 use parts::Small;
 
 // How many of the first l cells are empty before the first that is not.
@@ -23,7 +24,7 @@ pub fn leading_empties(cells: &[u32; 2017], l: usize) -> usize
 {
     let mut i: usize = 0;
     while i < l {
-        if 65536 <= cells[i] {
+        if HELD <= cells[i] {
             return i;
         }
         i += 1;
@@ -98,16 +99,6 @@ pub fn move_due(
     some_queue(read)
 }
 
-// The smaller of two numbers.
-fn smaller(a: usize, b: usize) -> usize
-    ensures { λ r. ⌜ r ≡ min a b ⌝ }
-{
-    if a < b {
-        return a;
-    }
-    b
-}
-
 // How many of n idle slots are surely quiet, where so many leading cells are empty and `due` says whether a move may
 // find something.
 pub fn quiet_count(small: Small, empties: usize, due: bool, n: usize) -> usize
@@ -115,13 +106,13 @@ pub fn quiet_count(small: Small, empties: usize, due: bool, n: usize) -> usize
     ensures { λ r. ⌜ r ≡ quietOf (sizesIn small) (small .phase) empties due n ⌝ }
 {
     if due {
-        let before = smaller(empties, small.block - 1 - small.phase);
-        return smaller(n, before);
+        let before = numbers::smaller(empties, small.block - 1 - small.phase);
+        return numbers::smaller(n, before);
     }
     if empties == small.queues * (small.block - 1) + 1 {
         return n;
     }
-    smaller(n, empties)
+    numbers::smaller(n, empties)
 }
 
 // The phase m slots later.

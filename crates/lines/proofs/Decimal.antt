@@ -53,13 +53,7 @@ digits-are-decimal (suc (suc k)) n f =
     let rest = digits-are-decimal (suc k) (n / 10) (omega arith, omega arith, λ h. rw g (omega arith)) in
     rw (rest, last-digit n) (sym (decimal-more n (omega arith)))
 
--- A decimal has a digit or more, and no more than k where the number is below 10 to the kth.
-pub decimal-not-empty : (n : ℕ) → 1 ≤ length (decimal n)
-decimal-not-empty n =
-    by-test (ltb n 10)
-    (λ t. rw (decimal-one n (ltb-true n 10 t)) (omega arith))
-    (λ t. rw (decimal-more n (ltb-false n 10 t), length-append) (omega arith))
-
+-- A number below 10 to the kth has at most k digits.
 pub decimal-length : (k n : ℕ) → 1 ≤ k → n < 10 ^ k → length (decimal n) ≤ k
 decimal-length zero n h g = absurd (omega arith)
 decimal-length (suc zero) n h g = rw (decimal-one n g) (omega arith)
@@ -69,13 +63,3 @@ decimal-length (suc (suc k)) n h g =
     by-test (ltb n 10)
     (λ t. rw (decimal-one n (ltb-true n 10 t)) (omega arith))
     (λ t. rw (decimal-more n (ltb-false n 10 t), length-append) (omega arith))
-
--- The same at the bounds that the program's numbers have.
-pub decimal-length-two : (n : ℕ) → n < 100 → length (decimal n) ≤ 2
-decimal-length-two n h = decimal-length 2 n (omega arith) h
-
-pub decimal-length-three : (n : ℕ) → n < 1000 → length (decimal n) ≤ 3
-decimal-length-three n h = decimal-length 3 n (omega arith) h
-
-pub decimal-length-ten : (n : ℕ) → n < 10000000000 → length (decimal n) ≤ 10
-decimal-length-ten n h = decimal-length 10 n (omega arith) h

@@ -4,7 +4,7 @@ use mathlib.Core.List.{List, [], _∷_, _++_, append-assoc, append-nil}
 use Prim.Native.Nat.{ℕ, _+_, _≤_}
 use native.Mathlib.Omega.{arith}
 use lib.ListN.{length, length-append}
-use Rattle.lines.specs.Lines.{Line, letter, numbers, decimal, spaced, numbersText, lineText}
+use Rattle.lines.specs.Lines.{Line, letter, numbers, decimal, spaced, numbersText, lineText, text}
 use Rattle.lines.specs.Says.{PutSays}
 use Rattle.lines.proofs.Placed.{put-nothing, put-keeps-length, put-then-put}
 
@@ -87,3 +87,7 @@ line-starts line p o h = record {
   put = put-nothing p o;
   room = h;
 }
+
+-- One line is all of its text.
+pub one-line : (line : Line) → text (line ∷ []) ≡ lineText line
+one-line line = append-nil (lineText line)

@@ -24,8 +24,8 @@ numbers (refusal t n) = t ∷ n ∷ []
 numbers (ending t) = t ∷ []
 numbers (fault n offset) = n ∷ offset ∷ []
 
--- A number in decimal, in ASCII, with no zero in front: the last digit after those of a tenth of it. A number has fewer
--- digits than itself and one, so that as many steps are enough.
+-- A number in decimal, in ASCII, with no zero in front: the last digit after those of a tenth of it. A number n has no
+-- more than n + 1 digits, so that as many steps are enough.
 abbrev pub digit : ℕ → ℕ
 digit d = 48 + d
 

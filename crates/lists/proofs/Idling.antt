@@ -1,30 +1,48 @@
--- Idle slots by the count: where each is refused alike, all stays as it was, whatever their number.
-use mathlib.Core.Path.{_≡_, refl, ap, sym, _∙_}
+-- Idle slots of which each is refused alike: a stretch of them is one, it is refused, and all stays as it was.
+use mathlib.Core.Path.{_≡_, refl, ap, sym, _∙_, subst}
 use mathlib.Core.List.{List}
-use Prim.Native.Nat.{ℕ, zero, suc}
+use mathlib.Core.Option.{none}
+use Prim.Native.Nat.{ℕ, _-_, min}
+use native.Mathlib.Omega.{arith}
 use lib.ListN.{length}
+use Rattle.model.specs.Words.{All}
 use Rattle.model.specs.Sizes.{paper}
 use Rattle.model.specs.State.{State}
-use Rattle.model.specs.Slot.{Answer, slot, refuse}
-use Rattle.model.specs.Lists.{lastState, lastStore}
-use Rattle.model.specs.Demand.{idles}
-use Rattle.model.specs.Idle.{idle}
+use Rattle.model.specs.Slot.{Answer, refuse, slot}
+use Rattle.model.specs.Calls.{idle, idles}
+use Rattle.model.specs.Lists.{run, lastState, lastStore}
+use Rattle.model.specs.Idle.{QuietStep}
+use Rattle.model.proofs.Idle.{stuck-slots}
+use Rattle.parts.specs.Calls.{deliveryIn}
 use Rattle.checked.specs.Says.{JudgeSays}
+use Rattle.pass.specs.declared.Rested.{Rested}
+use Rattle.pass.specs.Says.{lastAnswer}
 use Rattle.lists.specs.Says.{IdledSays}
 
-module _ (x : State) (store : List ℕ) (k : ℕ) (refused : slot paper x store idle ≡ refuse k x store) where
-  stays : (n : ℕ) → lastState paper x store (idles n) ≡ x
-  stays zero = refl
-  stays (suc n) = ap (λ (a : Answer). lastState paper (a .state) (a .store) (idles n)) refused ∙ stays n
-
-  store-stays : (n : ℕ) → lastStore paper x store (idles n) ≡ store
-  store-stays zero = refl
-  store-stays (suc n) = ap (λ (a : Answer). lastStore paper (a .state) (a .store) (idles n)) refused ∙ store-stays n
-
-pub not-idled : (x : State) (store : List ℕ) (n k : ℕ) → JudgeSays x (length store) k → (k ≡ 0 → ⊥)
-    → IdledSays x store n x store
-not-idled x store n k says f = record {
-  state-is = sym (stays x store k (says .refused f store idle refl) n);
-  store-is = sym (store-stays x store k (says .refused f store idle refl) n);
+pub not-idled : (x : State) (store : List ℕ) (n : ℕ) (r : Rested) → JudgeSays x (length store) (r .number)
+    → (r .number ≡ 0 → ⊥) → r .passed ≡ min n 1 → deliveryIn (r .delivery) ≡ none
+    → IdledSays x store n r x store
+not-idled x store n r says f passed silent = record {
+  stretch = record {
+    passed-most = omega (arith, passed);
+    passed-some = λ h. omega (arith, passed, h);
+    quiet-first = subst (λ (i : ℕ). All QuietStep (run paper x store (idles i))) (sym none-before) tt;
+    last-number = λ h. sym (ap (λ (a : Answer). a .number) last);
+    last-delivered = λ h. silent ∙ sym (ap (λ (a : Answer). a .delivered) last);
+  };
+  state-is = sym (stuck-slots paper x store (r .number) refused (r .passed) .state-is);
+  store-is = sym (stuck-slots paper x store (r .number) refused (r .passed) .store-is);
   kept = λ e. e;
 }
+  where
+    none-before : r .passed - 1 ≡ 0
+    none-before = omega (arith, passed)
+
+    refused : slot paper x store idle ≡ refuse (r .number) x store
+    refused = says .refused f store idle refl
+
+    last : lastAnswer x store (r .passed) ≡ refuse (r .number) x store
+    last =
+        ap (λ (i : ℕ). slot paper (lastState paper x store (idles i)) (lastStore paper x store (idles i)) idle)
+        none-before
+        ∙ refused

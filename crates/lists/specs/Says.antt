@@ -7,9 +7,12 @@ use lib.ListN.{length, take, drop}
 use Rattle.model.specs.Sizes.{paper}
 use Rattle.model.specs.State.{State, keeps}
 use Rattle.model.specs.Slot.{Call}
+use Rattle.model.specs.Calls.{idles}
 use Rattle.model.specs.Lists.{run, lastState, lastStore}
-use Rattle.model.specs.Demand.{idles}
+use Rattle.parts.specs.Calls.{deliveryIn}
 use Rattle.words.specs.Words.{callOf}
+use Rattle.pass.specs.declared.Rested.{Rested}
+use Rattle.pass.specs.Says.{Stretched}
 use Rattle.runs.specs.Says.{wordOf}
 
 -- A run takes as many calls as there are places for their answers.
@@ -28,8 +31,9 @@ pub record RanSays (x : State) (calls answers store : List ℕ) (x′ : State) (
   pub state-is : x′ ≡ lastState paper x store (callsRun calls answers)
   pub kept : keeps paper x ≡ true → keeps paper x′ ≡ true
 
--- n idle slots, marks included.
-pub record IdledSays (x : State) (store : List ℕ) (n : ℕ) (x′ : State) (store′ : List ℕ) : Type 0 where
-  pub state-is : x′ ≡ lastState paper x store (idles n)
-  pub store-is : store′ ≡ lastStore paper x store (idles n)
+-- One stretch of at most n idle slots: what its slots answer, state and store as they leave them, marks included.
+pub record IdledSays (x : State) (store : List ℕ) (n : ℕ) (r : Rested) (x′ : State) (store′ : List ℕ) : Type 0 where
+  pub stretch : Stretched x store n (r .passed) (r .number) (deliveryIn (r .delivery))
+  pub state-is : x′ ≡ lastState paper x store (idles (r .passed))
+  pub store-is : store′ ≡ lastStore paper x store (idles (r .passed))
   pub kept : keeps paper x ≡ true → keeps paper x′ ≡ true

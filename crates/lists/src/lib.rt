@@ -3,7 +3,7 @@
 ghost use mathlib.Core.Path.{_≡_};
 ghost use mathlib.Core.Bool.{true};
 ghost use mathlib.Core.List.{_++_, map};
-ghost use Prim.Native.Nat.{_≤_, min};
+ghost use Prim.Native.Nat.{_≤_};
 ghost use lib.ListN.{length, drop, replicate};
 ghost use Rattle.model.specs.Sizes.{paper};
 ghost use Rattle.model.specs.State.{keeps};
@@ -15,16 +15,7 @@ ghost use Rattle.lists.specs.Says.{RanSays, IdledSays};
 use caches::Chosen;
 use parts::Delivery;
 use parts::Small;
-
-// The smaller of two numbers.
-fn smaller(a: usize, b: usize) -> usize
-    ensures { λ r. ⌜ r ≡ min a b ⌝ }
-{
-    if a < b {
-        return a;
-    }
-    b
-}
+use pass::Rested;
 
 // The first n answers are all one word.
 fn fill(answers: &mut [u64], n: usize, word: u64)
@@ -103,7 +94,7 @@ pub fn run(
         (now (counts .exit))))
         (now (answers .exit)) (now (store .exit)) ⌝ }
 {
-    let n = smaller(calls.len(), answers.len());
+    let n = numbers::smaller(calls.len(), answers.len());
     let number = checked::judge(tail, head, cells, firsts, counts, small, store.len());
     if number != 0 {
         let word = words::answer_word(
@@ -128,7 +119,7 @@ pub fn run(
     )
 }
 
-// n idle slots of a state that keeps the rules, with a store that is long enough.
+// One stretch of at most n idle slots, of a state that keeps the rules, with a store that is long enough.
 fn idle_kept(
     tail: &mut [u16; 2144],
     head: &mut [u16; 4034],
@@ -138,13 +129,13 @@ fn idle_kept(
     small: Small,
     n: usize,
     store: &mut [u8],
-) -> Small
+) -> Rested
     requires { ⌜ Cleared small (arrays (now tail) (now head) (now cells) (now firsts) (now counts)) (now store) ⌝ }
     ensures { λ r. ⌜ IdledSays
         (stateIn small (arrays (now (tail .entry)) (now (head .entry)) (now (cells .entry)) (now (firsts .entry))
         (now (counts .entry))))
-        (now (store .entry)) n
-        (stateIn r (arrays (now (tail .exit)) (now (head .exit)) (now (cells .exit)) (now (firsts .exit))
+        (now (store .entry)) n r
+        (stateIn (r .small) (arrays (now (tail .exit)) (now (head .exit)) (now (cells .exit)) (now (firsts .exit))
         (now (counts .exit))))
         (now (store .exit)) ⌝ }
 {
@@ -152,7 +143,7 @@ fn idle_kept(
     let mut tails = taken.tails;
     let mut heads = taken.heads;
     let mut owing = taken.owing;
-    pass::idle_slots(
+    pass::rest(
         tail,
         head,
         cells,
@@ -167,8 +158,8 @@ fn idle_kept(
     )
 }
 
-// n idle slots, of any state and any store: one that breaks the rules, or a store that is too short, stays as it is,
-// whatever n, since every slot is refused.
+// One stretch of at most n idle slots, of any state and any store. Where the state breaks the rules or the store is too
+// short, it is one slot, and that is refused.
 pub fn idle(
     tail: &mut [u16; 2144],
     head: &mut [u16; 4034],
@@ -178,19 +169,25 @@ pub fn idle(
     small: Small,
     n: usize,
     store: &mut [u8],
-) -> Small
+) -> Rested
     requires { ⌜ Long (arrays (now tail) (now head) (now cells) (now firsts) (now counts)) ⌝ }
     ensures { λ r. ⌜ IdledSays
         (stateIn small (arrays (now (tail .entry)) (now (head .entry)) (now (cells .entry)) (now (firsts .entry))
         (now (counts .entry))))
-        (now (store .entry)) n
-        (stateIn r (arrays (now (tail .exit)) (now (head .exit)) (now (cells .exit)) (now (firsts .exit))
+        (now (store .entry)) n r
+        (stateIn (r .small) (arrays (now (tail .exit)) (now (head .exit)) (now (cells .exit)) (now (firsts .exit))
         (now (counts .exit))))
         (now (store .exit)) ⌝ }
 {
     let judged = checked::judge(tail, head, cells, firsts, counts, small, store.len());
     if judged != 0 {
-        return small;
+        let passed = numbers::smaller(n, 1);
+        return Rested {
+            small: small,
+            passed: passed,
+            number: judged,
+            delivery: Delivery::NoDelivery,
+        };
     }
     idle_kept(tail, head, cells, firsts, counts, small, n, store)
 }

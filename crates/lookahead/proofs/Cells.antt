@@ -11,9 +11,10 @@ use lib.ListN.{length, take, drop, set, getD, length-map, List·getD-map}
 use lib.Seq.{take-suc, take-suc-set, length-take-le, drop-cons, getD-take}
 use borrow.Author.Tests.{ltb-true}
 use Rattle.model.specs.Words.{allOf}
-use Rattle.model.specs.State.{Cell, empty, owed, owes, cellBelow}
+use Rattle.model.specs.State.{Cell, empty, held, owed, owes, owedOf, cellBelow}
 use Rattle.model.specs.Slot.{refillQueue}
-use Rattle.model.proofs.Words.{by-test, true-not-false, and-both, and-left, and-right}
+use Rattle.model.proofs.Words.{by-test, true-not-false, all-of-at, all-of-more}
+use Rattle.model.proofs.Cells.{owed-append}
 use Rattle.lookahead.specs.Views.{cellFor, cellOf, cellsIn}
 
 -- The queue of the cell at a place of an array.
@@ -25,6 +26,10 @@ kind-empty : (k q v : ℕ) → k < 1 → cellFor k q v ≡ empty
 unfolding cellFor
 kind-empty zero q v h = refl
 kind-empty (suc k) q v h = absurd (omega arith)
+
+kind-held : (k q v : ℕ) → k ≡ 1 → cellFor k q v ≡ held q v
+unfolding cellFor
+kind-held k q v e = rw e
 
 kind-owed : (k q v : ℕ) → 2 ≤ k → cellFor k q v ≡ owed q
 unfolding cellFor
@@ -52,6 +57,14 @@ kind-skipped credits (suc zero) q v cells h = refl
 kind-skipped credits (suc (suc k)) q v cells h = absurd (omega arith)
 
 -- A cell by its number.
+pub cell-empty : (c : ℕ) → c < 65536 → cellOf c ≡ empty
+unfolding cellOf
+cell-empty c h = kind-empty (c / 65536) (c / 256 % 256) (c % 256) (omega arith)
+
+pub cell-held : (c : ℕ) → 65536 ≤ c → c < 131072 → cellOf c ≡ held (c / 256 % 256) (c % 256)
+unfolding cellOf
+cell-held c h l = kind-held (c / 65536) (c / 256 % 256) (c % 256) (omega arith)
+
 pub cell-owed : (c : ℕ) → 131072 ≤ c → cellOf c ≡ owed (c / 256 % 256)
 unfolding cellOf
 cell-owed c h = kind-owed (c / 65536) (c / 256 % 256) (c % 256) (omega arith)
@@ -66,8 +79,7 @@ unfolding cellOf
 cell-skipped credits c cells h = kind-skipped credits (c / 65536) (c / 256 % 256) (c % 256) cells (omega arith)
 
 pub empty-below : (c n : ℕ) → c < 65536 → cellBelow n (cellOf c) ≡ true
-unfolding cellOf
-empty-below c n h = rw (kind-empty (c / 65536) (c / 256 % 256) (c % 256) (omega arith))
+empty-below c n h = rw (cell-empty c h)
 
 pub cell-below : (c n : ℕ) → 65536 ≤ c → cellBelow n (cellOf c) ≡ ltb (c / 256 % 256) n
 unfolding cellOf
@@ -93,6 +105,11 @@ pub cells-stored : (n : ℕ) (xs : List ℕ) (c : ℕ) → n < length xs
 unfolding cellsIn
 cells-stored n xs c h = rw (add-one, take-suc-set xs n c) (map-append cellOf (take n xs) (c ∷ []))
 
+pub owed-more : (q n : ℕ) (xs : List ℕ) → n < length xs
+    → owedOf q (cellsIn (n + 1) xs) ≡ owedOf q (cellsIn n xs) + owes q (cellOf (getD xs n 0))
+owed-more q n xs h =
+    rw (cells-more n xs h) (omega (arith, owed-append q (cellsIn n xs) (cellOf (getD xs n 0) ∷ [])))
+
 -- The cell at a place.
 pub cell-at : (n : ℕ) (xs : List ℕ) (i : ℕ) → i < n → getD (cellsIn n xs) i (cellOf 0) ≡ cellOf (getD xs i 0)
 unfolding cellsIn
@@ -104,18 +121,12 @@ cells-from {n} {i} xs fits more =
     let l : i < length (cellsIn n xs) = omega (arith, cells-length n xs fits) in
     rw (add-one, ← cell-at n xs i more) (drop-cons (cellsIn n xs) i (cellOf 0) l)
 
--- A test that holds of all elements holds at each place; where it fails at one, it does not hold of all.
-all-at : {A : Type 0} (test : A → Bool) (xs : List A) (i : ℕ) (d : A) → i < length xs → allOf test xs ≡ true
-    → test (getD xs i d) ≡ true
-all-at test [] i d h e = absurd (omega arith)
-all-at test (x ∷ xs) zero d h e = and-left (test x) (allOf test xs) e
-all-at test (x ∷ xs) (suc i) d h e = all-at test xs i d (omega arith) (and-right (test x) (allOf test xs) e)
-
+-- A test that holds of all cells holds at each place; where it fails at one, it does not hold of all.
 module _ {n i : ℕ} (xs : List ℕ) (fits : n ≤ length xs) (more : i < n) where
   all-cells-at : (test : Cell → Bool) → allOf test (cellsIn n xs) ≡ true → test (cellOf (getD xs i 0)) ≡ true
   all-cells-at test e =
       let l : i < length (cellsIn n xs) = omega (arith, cells-length n xs fits) in
-      rw (← cell-at n xs i more) (all-at test (cellsIn n xs) i (cellOf 0) l e)
+      rw (← cell-at n xs i more) (all-of-at test (cellsIn n xs) i (cellOf 0) e l)
 
   pub not-all-cells : (test : Cell → Bool) → test (cellOf (getD xs i 0)) ≡ false → allOf test (cellsIn n xs) ≡ false
   not-all-cells test f =
@@ -129,14 +140,6 @@ module _ {n i : ℕ} (xs : List ℕ) (fits : n ≤ length xs) (more : i < n) whe
       ltb-true (queueAt xs i) m (sym (cell-below (getD xs i 0) m g) ∙ all-cells-at (cellBelow m) e)
 
 -- A test of one cell more.
-all-more : {A : Type 0} (test : A → Bool) (xs : List A) (x : A) → allOf test xs ≡ true → test x ≡ true
-    → allOf test (xs ++ x ∷ []) ≡ true
-all-more test [] x e f = and-both (test x) true f refl
-all-more test (y ∷ xs) x e f =
-    and-both (test y) (allOf test (xs ++ x ∷ []))
-    (and-left (test y) (allOf test xs) e)
-    (all-more test xs x (and-right (test y) (allOf test xs) e) f)
-
 pub all-cells-more : {i : ℕ} (xs : List ℕ) (test : Cell → Bool) → i < length xs → allOf test (cellsIn i xs) ≡ true
     → test (cellOf (getD xs i 0)) ≡ true → allOf test (cellsIn (i + 1) xs) ≡ true
-all-cells-more {i} xs test h e f = rw (cells-more i xs h) (all-more test (cellsIn i xs) (cellOf (getD xs i 0)) e f)
+all-cells-more {i} xs test h e f = rw (cells-more i xs h) (all-of-more test (cellsIn i xs) (cellOf (getD xs i 0)) e f)

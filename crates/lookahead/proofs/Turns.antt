@@ -13,14 +13,13 @@ use borrow.Author.Tests.{eqb-true, leb-true, leb-false}
 use Rattle.model.specs.State.{Cell, empty, held, owed, owes, owedOf}
 use Rattle.model.specs.Slot.{refillQueue}
 use Rattle.model.proofs.Words.{by-test}
-use Rattle.model.proofs.Cells.{owed-append}
 use Rattle.model.proofs.Scan.{scan-stops, scan-goes-on}
 use Rattle.caches.specs.Views.{countsIn}
 use Rattle.caches.proofs.Counts.{counts-zero, counts-stored}
-use Rattle.lookahead.specs.Views.{cellOf, cellsIn}
+use Rattle.lookahead.specs.Views.{cellsIn}
 use Rattle.lookahead.specs.Says.{Shifted, TallyOwed, Scanned}
 use Rattle.lookahead.proofs.Cells.{queueAt, cell-owed, cell-owes-nothing, cell-skipped, no-cells, cells-length}
-use Rattle.lookahead.proofs.Cells.{cells-more, cells-stored, cells-from}
+use Rattle.lookahead.proofs.Cells.{cells-more, cells-stored, owed-more, cells-from}
 
 -- The shift before turn i: i cells have moved down, and those from i on are where they were.
 pub record ShiftedTo (i l : ℕ) (before after : List ℕ) : Type 0 where
@@ -172,10 +171,6 @@ module _ {i n : ℕ} {xs counts : List ℕ} (fits : n ≤ length xs) (w : Tallie
   tally-ends last = let e : i ≡ n = omega arith in rw e at (w .tally)
 
   module _ (more : i < n) where
-    owed-more : (p : ℕ) → owedOf p (cellsIn (i + 1) xs) ≡ owedOf p (cellsIn i xs) + owes p (cellOf (getD xs i 0))
-    owed-more p =
-        rw (cells-more i xs (omega arith)) (omega (arith, owed-append p (cellsIn i xs) (cellOf (getD xs i 0) ∷ [])))
-
     -- A count is at most the number of cells counted, so that it fits.
     pub count-at-most : (q : ℕ) → getD counts q 0 ≤ i
     unfolding countsIn
@@ -188,7 +183,12 @@ module _ {i n : ℕ} {xs counts : List ℕ} (fits : n ≤ length xs) (w : Tallie
       tally = record {
         long = w .tally .long;
         count-is = λ p.
-            omega (arith, w .tally .count-is p, owed-more p, cell-owes-nothing (getD xs i 0) p other);
+            omega (
+              arith,
+              w .tally .count-is p,
+              owed-more p i xs (omega arith),
+              cell-owes-nothing (getD xs i 0) p other,
+            );
       };
     }
 
@@ -202,7 +202,7 @@ module _ {i n : ℕ} {xs counts : List ℕ} (fits : n ≤ length xs) (w : Tallie
           arith,
           w .tally .count-is p,
           count-raised counts (queueAt xs i) p (omega (arith, w .tally .long)),
-          owed-more p,
+          owed-more p i xs (omega arith),
           ap (owes p) (cell-owed (getD xs i 0) owing),
         );
       };

@@ -12,6 +12,11 @@ ghost use Rattle.lookahead.specs.Views.{cellOf, cellsIn};
 ghost use Rattle.lookahead.specs.Says.{Shifted, TallyOwed, Scanned, spent};
 use caches::Chosen;
 
+// A cell is kind × 65,536 + queue × 256 + value: below `HELD` it is empty, from `OWED` on it is Owed.
+pub const HELD: u32 = 65536;
+
+pub const OWED: u32 = 131072;
+
 // The oldest of l cells leaves, and `cell` comes in as the youngest.
 pub fn shift(cells: &mut [u32], l: usize, cell: u32)
     requires { ⌜ (1 ≤ l) × (l ≤ length (now cells)) ⌝ }
@@ -44,10 +49,10 @@ pub fn scan(cells: &[u32], from: usize, l: usize, credits: [u16; 64]) -> Stopped
             break Chosen::Nothing;
         }
         let c = cells[i];
-        if 65536 <= c {
+        if HELD <= c {
             // Whether the cell is Held or Owed is reckoned with: no branch goes by it.
             let q = (c / 256 % 256) as usize;
-            let owes = (131072 <= c) as u16;
+            let owes = (OWED <= c) as u16;
             if left[q] < owes {
                 break Chosen::Queue(q as u8);
             }
@@ -70,7 +75,7 @@ pub fn tally_owed(cells: &[u32], n: usize) -> [u16; 64]
     let mut i: usize = 0;
     while i < n {
         let cell = cells[i];
-        if 131072 <= cell {
+        if OWED <= cell {
             let q = (cell / 256 % 256) as usize;
             counts[q] = counts[q] + 1;
         }
@@ -85,7 +90,7 @@ pub fn spend(counts: &mut [u16; 64], leaving: u32)
         × ((q : ℕ) → cellOf leaving ≡ owed q → (q < 64) × (1 ≤ countsIn (now counts) q)) ⌝ }
     ensures { λ _. ⌜ CountsAre (now (counts .exit)) (spent (countsIn (now (counts .entry))) (cellOf leaving)) ⌝ }
 {
-    if 131072 <= leaving {
+    if OWED <= leaving {
         let q = (leaving / 256 % 256) as usize;
         counts[q] = counts[q] - 1;
     }
@@ -99,7 +104,7 @@ pub fn all_below(cells: &[u32], n: usize, queues: usize) -> bool
     let mut i: usize = 0;
     while i < n {
         let c = cells[i];
-        if 65536 <= c && queues <= (c / 256 % 256) as usize {
+        if HELD <= c && queues <= (c / 256 % 256) as usize {
             return false;
         }
         i += 1;

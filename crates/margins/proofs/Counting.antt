@@ -12,12 +12,11 @@ use borrow.Author.Tests.{eq-eqb, ne-eqb, leb-true, leb-false}
 use Rattle.model.specs.State.{countOf, owes, owedOf}
 use Rattle.model.proofs.Words.{by-test}
 use Rattle.model.proofs.Bytes.{count-append}
-use Rattle.model.proofs.Cells.{owed-append}
 use Rattle.caches.specs.Views.{byteOf, bytesIn}
 use Rattle.caches.proofs.Entries.{bytes-none, bytes-more, bytes-length}
 use Rattle.caches.proofs.Tallies.{count-le}
 use Rattle.lookahead.specs.Views.{cellOf, cellsIn}
-use Rattle.lookahead.proofs.Cells.{cell-owed, no-cells, cells-more, cells-length}
+use Rattle.lookahead.proofs.Cells.{cell-owed, no-cells, cells-length}
 use Rattle.lookahead.proofs.Turns.{owed-at-most}
 
 -- One entry is one byte of its queue, and none of another.
@@ -49,11 +48,6 @@ module _ (q i : ℕ) (xs : List ℕ) (h : i < length xs) where
 
   pub count-small : countOf q (bytesIn (i + 1) xs) ≤ i + 1
   count-small = omega (arith, count-le q (bytesIn (i + 1) xs), bytes-length (i + 1) xs (omega arith))
-
-  pub owed-more : owedOf q (cellsIn (i + 1) xs) ≡ owedOf q (cellsIn i xs) + owes q (cellOf (getD xs i 0))
-  owed-more =
-      ap (owedOf q) (cells-more i xs h)
-      ∙ omega (arith, owed-append q (cellsIn i xs) (cellOf (getD xs i 0) ∷ []))
 
   pub owed-small : owedOf q (cellsIn (i + 1) xs) ≤ i + 1
   owed-small = omega (arith, owed-at-most q (cellsIn (i + 1) xs), cells-length (i + 1) xs (omega arith))

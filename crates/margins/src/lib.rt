@@ -7,20 +7,11 @@ ghost use lib.ListN.{length};
 ghost use Rattle.model.specs.State.{countOf, owes, owedOf};
 ghost use Rattle.caches.specs.Views.{byteOf, bytesIn};
 ghost use Rattle.lookahead.specs.Views.{cellOf, cellsIn};
-
-// The smaller of two numbers.
-fn smaller(a: usize, b: usize) -> usize
-    ensures { λ r. ⌜ r ≡ min a b ⌝ }
-{
-    if a < b {
-        return a;
-    }
-    b
-}
+use lookahead::OWED;
 
 // How many of the L = Q(b - 1) + 1 cells an array of 2,017 has, whatever the sizes: the product is taken only where it
 // is small.
-fn cells_within(queues: usize, block: usize) -> usize
+pub fn cells_within(queues: usize, block: usize) -> usize
     ensures { λ r. ⌜ r ≡ min (queues * (block - 1) + 1) 2017 ⌝ }
 {
     if queues == 0 {
@@ -35,7 +26,7 @@ fn cells_within(queues: usize, block: usize) -> usize
     if 2017 <= block {
         return 2017;
     }
-    smaller(queues * (block - 1) + 1, 2017)
+    numbers::smaller(queues * (block - 1) + 1, 2017)
 }
 
 // 1 where an entry is of queue q, else 0.
@@ -67,7 +58,7 @@ fn count_of(entries: &[u16], n: usize, q: u16) -> u16
 fn is_owed(cell: u32, q: u32) -> u16
     ensures { λ r. ⌜ r ≡ owes q (cellOf cell) ⌝ }
 {
-    if cell < 131072 {
+    if cell < OWED {
         return 0;
     }
     if cell / 256 % 256 == q {
@@ -104,7 +95,7 @@ pub fn margin<'a>(
     ensures { λ r. ⌜ r ≡ pos (countOf queue (bytesIn fill (now (head .entry))))
         -ℤ pos (owedOf queue (cellsIn (queues * (block - 1) + 1) (now (cells .entry)))) ⌝ }
 {
-    let bytes = count_of(head, smaller(fill, 4034), queue as u16);
+    let bytes = count_of(head, numbers::smaller(fill, 4034), queue as u16);
     let owed = count_owed(cells, cells_within(queues, block), queue as u32);
     (bytes as i32) - (owed as i32)
 }

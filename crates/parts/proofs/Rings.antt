@@ -8,18 +8,14 @@ use lib.ListN.{length, set, getD}
 use lib.Seq.{getD-set-same, getD-set-other}
 use Rattle.model.specs.Words.{tabulate}
 use Rattle.model.specs.State.{Ring, ring, ringOf}
+use Rattle.model.proofs.Words.{tabulate-at}
 use Rattle.caches.specs.Views.{countsIn}
 use Rattle.parts.specs.Views.{ringsIn}
 
--- The list f 0, f 1, .., f (n - 1): its length, the value at a place and past its end, and one value changed.
+-- The list f 0, f 1, .., f (n - 1): its length, a place past its end, and one value changed.
 length-tabulate : {A : Type 0} (n : ℕ) (f : ℕ → A) → length (tabulate n f) ≡ n
 length-tabulate zero f = refl
 length-tabulate (suc n) f = ap suc (length-tabulate n (λ i. f (suc i)))
-
-tabulate-at : {A : Type 0} (n : ℕ) (f : ℕ → A) (q : ℕ) (d : A) → q < n → getD (tabulate n f) q d ≡ f q
-tabulate-at zero f q d l = absurd (omega arith)
-tabulate-at (suc n) f zero d l = refl
-tabulate-at (suc n) f (suc q) d l = tabulate-at n (λ i. f (suc i)) q d (omega arith)
 
 tabulate-past : {A : Type 0} (n : ℕ) (f : ℕ → A) (q : ℕ) (d : A) → n ≤ q → getD (tabulate n f) q d ≡ d
 tabulate-past zero f q d l = refl

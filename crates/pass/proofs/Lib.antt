@@ -3,5 +3,5 @@
 pub mod Counting
 -- The quiet slots that pass in the cells are the model's.
 pub mod Passing
--- A stretch of them with one slot behind it, and idle slots as such stretches.
+-- A stretch of them with one slot behind it.
 pub mod Stretches

@@ -25,12 +25,12 @@ use Rattle.pass.specs.declared.Stretch.{Stretch}
 use Rattle.pass.specs.Says.{cellsOf, StretchSays}
 
 -- What passes quietly: the slots, the counts beside the state, the length of the cells.
-record Passed (small : Small) (m : Arrays) (tails heads owing store : List ℕ) (s : Stretch) (cells′ : List ℕ)
+pub record Passed (small : Small) (m : Arrays) (tails heads owing store : List ℕ) (s : Stretch) (cells′ : List ℕ)
     : Type 0 where
-  slots-pass : PassedQuietly paper (stateIn small m) store (s .count)
+  pub slots-pass : PassedQuietly paper (stateIn small m) store (s .count)
       (stateIn (withPhase (s .phase) small) (withCells cells′ m))
-  counts-stay : Tallies (stateIn (withPhase (s .phase) small) (withCells cells′ m)) tails heads owing
-  same-length : length cells′ ≡ length (m .cells)
+  pub counts-stay : Tallies (stateIn (withPhase (s .phase) small) (withCells cells′ m)) tails heads owing
+  pub same-length : length cells′ ≡ length (m .cells)
 
 module _ (small : Small) (m : Arrays) (tails heads owing store : List ℕ) (r : Ready small m tails heads owing store)
     (n : ℕ) (s : Stretch) (cells′ : List ℕ) (says : StretchSays small (m .cells) tails heads n s cells′) where
@@ -44,7 +44,7 @@ module _ (small : Small) (m : Arrays) (tails heads owing store : List ℕ) (r : 
   kept = keeps-facts paper (stateIn small m) (r .kept)
 
   fits : l ≤ length (m .cells)
-  fits = omega (arith, in-limits small (kept .sizes-ok) .span, r .long .cells-long)
+  fits = omega (arith, in-limits small (kept .sizes-ok) .span-high, r .long .cells-long)
 
   by-turn : empties ≡ l → cells′ ≡ m .cells → Passed small m tails heads owing store s cells′
   by-turn all stay = record {
@@ -79,16 +79,11 @@ module _ (small : Small) (m : Arrays) (tails heads owing store : List ℕ) (r : 
     same-length = says .some-shift some-full .same-length;
   }
 
-  all-passed : Passed small m tails heads owing store s cells′
-  all-passed =
+  pub quiet-passed : Passed small m tails heads owing store s cells′
+  quiet-passed =
       by-test (eqb empties l)
       (λ t. by-turn (eqb-true empties l t) (says .all-stay (eqb-true empties l t)))
       (λ t. by-shift (omega (arith, eqb-false empties l t, leading-fits l (m .cells) fits)))
-
-  -- The slots that pass are quiet.
-  pub quiet-passed : PassedQuietly paper (stateIn small m) store (s .count)
-      (stateIn (withPhase (s .phase) small) (withCells cells′ m))
-  quiet-passed = all-passed .slots-pass
 
   -- What they leave is ready.
   pub quiet-ready : Ready (withPhase (s .phase) small) (withCells cells′ m) tails heads owing store
@@ -96,12 +91,13 @@ module _ (small : Small) (m : Arrays) (tails heads owing store : List ℕ) (r : 
     long = record {
       tail-long = r .long .tail-long;
       head-long = r .long .head-long;
-      cells-long = all-passed .same-length ∙ r .long .cells-long;
+      cells-long = quiet-passed .same-length ∙ r .long .cells-long;
       firsts-long = r .long .firsts-long;
       counts-long = r .long .counts-long;
     };
-    kept = keeps-holds paper (stateIn (withPhase (s .phase) small) (withCells cells′ m)) (quiet-passed .kept);
-    tallies = all-passed .counts-stay;
+    kept =
+        keeps-holds paper (stateIn (withPhase (s .phase) small) (withCells cells′ m)) (quiet-passed .slots-pass .kept);
+    tallies = quiet-passed .counts-stay;
     store-long = r .store-long;
   }
 

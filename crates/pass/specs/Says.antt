@@ -1,14 +1,15 @@
 -- What idle slots on lent arrays promise, by the model's own list of idle slots.
 use mathlib.Core.Path.{_≡_}
 use mathlib.Core.List.{List}
+use mathlib.Core.Option.{Option}
 use Prim.Native.Nat.{ℕ, _+_, _-_, _%_, _≤_, _<_}
 use Rattle.model.specs.Words.{All}
 use Rattle.model.specs.Sizes.{paper, lookahead}
-use Rattle.model.specs.State.{Cell, State}
+use Rattle.model.specs.State.{Byte, Cell, State}
 use Rattle.model.specs.Slot.{Answer, slot}
+use Rattle.model.specs.Calls.{idle, idles}
 use Rattle.model.specs.Lists.{run, lastState, lastStore}
-use Rattle.model.specs.Demand.{idles}
-use Rattle.model.specs.Idle.{idle, QuietStep, leadingEmpties, moveDue, quietOf}
+use Rattle.model.specs.Idle.{QuietStep, leadingEmpties, moveDue, quietOf}
 use Rattle.caches.specs.Views.{countsIn}
 use Rattle.lookahead.specs.Views.{cellsIn}
 use Rattle.parts.specs.declared.Small.{Small}
@@ -42,22 +43,19 @@ abbrev pub lastAnswer : State → List ℕ → ℕ → Answer
 lastAnswer x store n =
     slot paper (lastState paper x store (idles (n - 1))) (lastStore paper x store (idles (n - 1))) idle
 
--- One stretch of at most n idle slots, exactly as the model has them: all but the last are quiet, the last answers what
--- is given back of it, and what it leaves is ready for the next slot.
+-- One stretch of at most n idle slots, as the model has them: all but the last are quiet, and the last answers what is
+-- given back of it. How far a stretch goes is left free between one slot and all n.
+pub record Stretched (x : State) (store : List ℕ) (n passed number : ℕ) (delivered : Option Byte) : Type 0 where
+  pub passed-most : passed ≤ n
+  pub passed-some : 1 ≤ n → 1 ≤ passed
+  pub quiet-first : All QuietStep (run paper x store (idles (passed - 1)))
+  pub last-number : 1 ≤ n → number ≡ lastAnswer x store passed .number
+  pub last-delivered : 1 ≤ n → delivered ≡ lastAnswer x store passed .delivered
+
+-- The same on lent arrays: state and store as those slots leave them, ready for the next one.
 pub record RestSays (x : State) (store : List ℕ) (n : ℕ) (r : Rested) (m′ : Arrays)
     (tails′ heads′ owing′ store′ : List ℕ) : Type 0 where
-  pub passed-most : r .passed ≤ n
-  pub passed-some : 1 ≤ n → 1 ≤ r .passed
-  pub quiet-first : All QuietStep (run paper x store (idles (r .passed - 1)))
-  pub last-number : 1 ≤ n → r .number ≡ lastAnswer x store (r .passed) .number
-  pub last-delivered : 1 ≤ n → deliveryIn (r .delivery) ≡ lastAnswer x store (r .passed) .delivered
+  pub stretch : Stretched x store n (r .passed) (r .number) (deliveryIn (r .delivery))
   pub state-is : stateIn (r .small) m′ ≡ lastState paper x store (idles (r .passed))
   pub store-is : store′ ≡ lastStore paper x store (idles (r .passed))
   pub ready : Ready (r .small) m′ tails′ heads′ owing′ store′
-
--- Exactly n idle slots; what they leave is ready.
-pub record IdleSays (x : State) (store : List ℕ) (n : ℕ) (r : Small) (m′ : Arrays)
-    (tails′ heads′ owing′ store′ : List ℕ) : Type 0 where
-  pub state-is : stateIn r m′ ≡ lastState paper x store (idles n)
-  pub store-is : store′ ≡ lastStore paper x store (idles n)
-  pub ready : Ready r m′ tails′ heads′ owing′ store′

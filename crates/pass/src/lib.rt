@@ -10,7 +10,7 @@ ghost use Rattle.model.specs.State.{cellBelow};
 ghost use Rattle.lookahead.specs.Views.{cellsIn};
 ghost use Rattle.parts.specs.Views.{arrays, sizesIn, stateIn};
 ghost use Rattle.slot.specs.Says.{Ready};
-ghost use Rattle.pass.specs.Says.{StretchSays, RestSays, IdleSays};
+ghost use Rattle.pass.specs.Says.{StretchSays, RestSays};
 use parts::Arrival;
 use parts::Delivery;
 use parts::Request;
@@ -129,52 +129,4 @@ pub fn rest(
         number: slot.number,
         delivery: delivery,
     }
-}
-
-// Exactly n idle slots, stretch by stretch. A refused one changes nothing, and neither do those after it.
-pub fn idle_slots(
-    tail: &mut [u16; 2144],
-    head: &mut [u16; 4034],
-    cells: &mut [u32; 2017],
-    firsts: &mut [u8; 64],
-    counts: &mut [u8; 64],
-    tails: &mut [u16; 64],
-    heads: &mut [u16; 64],
-    owing: &mut [u16; 64],
-    small: Small,
-    n: usize,
-    store: &mut [u8],
-) -> Small
-    requires { ⌜ Ready small (arrays (now tail) (now head) (now cells) (now firsts) (now counts))
-        (now tails) (now heads) (now owing) (now store) ⌝ }
-    ensures { λ r. ⌜ IdleSays
-        (stateIn small (arrays (now (tail .entry)) (now (head .entry)) (now (cells .entry)) (now (firsts .entry))
-        (now (counts .entry))))
-        (now (store .entry)) n r
-        (arrays (now (tail .exit)) (now (head .exit)) (now (cells .exit)) (now (firsts .exit)) (now (counts .exit)))
-        (now (tails .exit)) (now (heads .exit)) (now (owing .exit)) (now (store .exit)) ⌝ }
-{
-    let mut reached = small;
-    let mut left = n;
-    while 0 < left {
-        let rested = rest(
-            tail,
-            head,
-            cells,
-            firsts,
-            counts,
-            tails,
-            heads,
-            owing,
-            reached,
-            left,
-            store,
-        );
-        reached = rested.small;
-        if rested.number != 0 {
-            return reached;
-        }
-        left = left - rested.passed;
-    }
-    reached
 }

@@ -12,10 +12,10 @@ use Rattle.model.specs.Words.{choose}
 use Rattle.model.specs.Sizes.{paper}
 use Rattle.model.specs.State.{Byte, byte, State}
 use Rattle.model.specs.Slot.{Call, Answer, slot}
+use Rattle.model.specs.Calls.{idle, idles}
 use Rattle.model.specs.Lists.{Step, stepOf, run, lastState, lastStore, accepted}
-use Rattle.model.specs.Demand.{idles}
-use Rattle.model.specs.Idle.{idle}
-use Rattle.model.proofs.Idle.{idles-plus}
+use Rattle.model.proofs.Lists.{run-length}
+use Rattle.model.proofs.Idle.{idles-parts}
 use Rattle.parts.specs.declared.Small.{Small}
 use Rattle.parts.specs.Calls.{deliveryIn}
 use Rattle.parts.specs.Views.{Arrays, stateIn}
@@ -26,19 +26,16 @@ use Rattle.pass.specs.Says.{lastAnswer, RestSays}
 use Rattle.lines.specs.Lines.{Line, delivery, refusal, lineText, text}
 use Rattle.lines.specs.Says.{PutSays}
 use Rattle.lines.proofs.Placed.{put-nothing}
+use Rattle.lines.proofs.Pieces.{one-line}
 use Rattle.printout.specs.Run.{answerLines, countOn, slotLines}
 use Rattle.printout.proofs.Append.{run-lines-append, run-count-append, quiet-prints-nothing, quiet-all-accepted}
 use Rattle.printer.specs.declared.Progress.{Progress}
 use Rattle.printer.specs.declared.Told.{Told}
 use Rattle.printer.specs.Says.{countLimit, AnswerFits, AnswerSays, RunsOn, Room}
-use Rattle.printer.proofs.Going.{run-length, room-first}
+use Rattle.printer.proofs.Going.{room-first}
 
 abbrev told : ℕ → ℕ → Told
 told slots place = record { slots = slots; place = place }
-
--- One line is its text.
-one-line : (line : Line) → text (line ∷ []) ≡ lineText line
-one-line line = append-nil (lineText line)
 
 put-line : (line : Line) {place : ℕ} {output : List ℕ} {r : ℕ} {output′ : List ℕ}
     → PutSays (lineText line) place output r output′ → PutSays (text (line ∷ [])) place output r output′
@@ -120,10 +117,8 @@ module _ (t number : ℕ) (delivered : Option Byte) (place : ℕ) (output : List
     }
 
 -- n idle slots are i of them and those left.
-pub idles-parts : (n i : ℕ) → i ≤ n → idles n ≡ idles i ++ idles (n - i)
-idles-parts n i h =
-    let e : n ≡ i + (n - i) = omega (arith, h) in
-    ap idles e ∙ idles-plus i (n - i)
+pub idles-left : (n i : ℕ) → i ≤ n → idles n ≡ idles i ++ idles (n - i)
+idles-left n i h = idles-parts n i (n - i) (omega (arith, h))
 
 pub no-idles : (n : ℕ) → n ≡ 0 → idles n ≡ []
 no-idles n none-left = ap idles none-left
@@ -193,17 +188,15 @@ module _ (x : State) (store : List ℕ) (n t place : ℕ) (output : List ℕ) (r
     last = stepOf y bytes idle (lastAnswer x store (r .passed))
 
     some-passed : 1 ≤ r .passed
-    some-passed = says .passed-some some-left
+    some-passed = says .stretch .passed-some some-left
 
     parts : idles (r .passed) ≡ idles before ++ idle ∷ []
-    parts =
-        let e : r .passed ≡ before + 1 = omega (arith, some-passed) in
-        ap idles e ∙ idles-plus before 1
+    parts = idles-parts (r .passed) before 1 (omega (arith, some-passed))
 
     all-before : length (accepted (run paper x store (idles before))) ≡ before
     all-before =
-        quiet-all-accepted (run paper x store (idles before)) (says .quiet-first)
-        ∙ run-length x store (idles before)
+        quiet-all-accepted (run paper x store (idles before)) (says .stretch .quiet-first)
+        ∙ run-length paper x store (idles before)
         ∙ length-replicate before idle
 
     stretch-lines : slotLines t (run paper x store (idles (r .passed)))
@@ -212,16 +205,16 @@ module _ (x : State) (store : List ℕ) (n t place : ℕ) (output : List ℕ) (r
         ap (λ (cs : List Call). slotLines t (run paper x store cs)) parts
         ∙ run-lines-append paper x store (idles before) (idle ∷ []) t
         ∙ ap (λ (l : List Line). l ++ slotLines (t + length (accepted (run paper x store (idles before)))) (last ∷ []))
-        (quiet-prints-nothing t (run paper x store (idles before)) (says .quiet-first))
+        (quiet-prints-nothing t (run paper x store (idles before)) (says .stretch .quiet-first))
         ∙ ap (λ (k : ℕ). slotLines (t + k) (last ∷ [])) all-before
         ∙ append-nil (answerLines (t + before) (last .number) (last .delivered))
-        ∙ ap (λ (k : ℕ). answerLines (t + before) k (last .delivered)) (sym (says .last-number some-left))
-        ∙ ap (answerLines (t + before) (r .number)) (sym (says .last-delivered some-left))
+        ∙ ap (λ (k : ℕ). answerLines (t + before) k (last .delivered)) (sym (says .stretch .last-number some-left))
+        ∙ ap (answerLines (t + before) (r .number)) (sym (says .stretch .last-delivered some-left))
 
     stretch-count : countOn (t + before) (r .number)
         ≡ t + length (accepted (run paper x store (idles (r .passed))))
     stretch-count =
-        ap (countOn (t + before)) (says .last-number some-left)
+        ap (countOn (t + before)) (says .stretch .last-number some-left)
         ∙ counts-one (t + before) last
         ∙ omega (
           arith,
@@ -232,7 +225,7 @@ module _ (x : State) (store : List ℕ) (n t place : ℕ) (output : List ℕ) (r
 
     pub before-fits : Room x store (idles n) t place output → t + before + 1 < countLimit
     before-fits room =
-        omega (arith, room .slots-fit, some-passed, says .passed-most, length-replicate n idle)
+        omega (arith, room .slots-fit, some-passed, says .stretch .passed-most, length-replicate n idle)
 
     pub stretch-answer-fits : Room x store (idles n) t place output
         → AnswerFits (t + before) (r .number) (deliveryIn (r .delivery)) place output
@@ -245,7 +238,7 @@ module _ (x : State) (store : List ℕ) (n t place : ℕ) (output : List ℕ) (r
         passed-room =
             room-first x store (idles (r .passed)) (idles (n - r .passed)) t place output
             (subst (λ (cs : List Call). Room x store cs t place output)
-            (idles-parts n (r .passed) (says .passed-most)) room)
+            (idles-left n (r .passed) (says .stretch .passed-most)) room)
 
     pub stretch-runs : (a : Told) (output′ : List ℕ) (p : Progress)
         → AnswerSays (t + before) (r .number) (deliveryIn (r .delivery)) place output a output′

@@ -1,17 +1,15 @@
 -- Slots run and printed one part after the other are run and printed whole: the second part starts from the state, the
 -- store, the count and the place that the first left. So a loop carries `Going`: whoever runs what is left has run all.
 use mathlib.Core.Path.{_≡_, refl, ap, sym, _∙_, subst}
-use mathlib.Core.List.{List, [], _∷_, _++_}
-use Prim.Native.Nat.{ℕ, suc, _+_, _≤_}
+use mathlib.Core.List.{List, [], _++_}
+use Prim.Native.Nat.{ℕ, _+_, _≤_}
 use native.Mathlib.Omega.{arith}
-use lib.Dec.{eqb}
 use lib.ListN.{length, length-append}
 use Rattle.model.specs.Sizes.{paper}
 use Rattle.model.specs.State.{State}
 use Rattle.model.specs.Slot.{Call}
-use Rattle.model.specs.Lists.{Step, run, lastState, lastStore, accepted}
-use Rattle.model.proofs.Words.{by-test}
-use Rattle.model.proofs.Idle.{last-append, last-store-append}
+use Rattle.model.specs.Lists.{run, lastState, lastStore, accepted}
+use Rattle.model.proofs.Lists.{last-append, last-store-append, run-length, accepted-few}
 use Rattle.parts.specs.Views.{Arrays, stateIn}
 use Rattle.slot.specs.Says.{Ready}
 use Rattle.lines.specs.Lines.{text}
@@ -23,21 +21,10 @@ use Rattle.printer.specs.declared.Progress.{Progress}
 use Rattle.printer.specs.Says.{RunsOn, Room}
 
 -- No more slots are accepted than there are calls.
-accepted-most : (steps : List Step) → length (accepted steps) ≤ length steps
-accepted-most [] = omega arith
-accepted-most (step ∷ steps) =
-    by-test (eqb (step .number) 0)
-    (λ t. rw t (omega (arith, accepted-most steps)))
-    (λ t. rw t (omega (arith, accepted-most steps)))
-
-pub run-length : (x : State) (store : List ℕ) (calls : List Call) → length (run paper x store calls) ≡ length calls
-run-length x store [] = refl
-run-length x store (call ∷ calls) = ap suc (run-length _ _ calls)
-
-pub run-accepts-most : (x : State) (store : List ℕ) (calls : List Call)
+run-accepts-most : (x : State) (store : List ℕ) (calls : List Call)
     → length (accepted (run paper x store calls)) ≤ length calls
 run-accepts-most x store calls =
-    omega (arith, accepted-most (run paper x store calls), run-length x store calls)
+    omega (arith, accepted-few (run paper x store calls), run-length paper x store calls)
 
 -- Equal calls need the same and promise the same.
 pub same-room : {x : State} {store : List ℕ} {calls calls′ : List Call} {t place : ℕ} {output : List ℕ} → calls ≡ calls′

@@ -7,8 +7,8 @@ use lib.ListN.{length}
 use Rattle.model.specs.Sizes.{paper}
 use Rattle.model.specs.State.{Byte, State}
 use Rattle.model.specs.Slot.{Call}
+use Rattle.model.specs.Calls.{idles}
 use Rattle.model.specs.Lists.{run, lastState, lastStore, accepted}
-use Rattle.model.specs.Demand.{idles}
 use Rattle.parts.specs.Calls.{callIn}
 use Rattle.parts.specs.Views.{Arrays, stateIn}
 use Rattle.slot.specs.Says.{Ready}

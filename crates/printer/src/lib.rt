@@ -1,7 +1,7 @@
 // Slots run in place, and their lines put into a lent output: one slot, idle slots, the slots of one command.
 ghost use mathlib.Core.Path.{_≡_};
 ghost use mathlib.Core.List.{[], _∷_};
-ghost use Rattle.model.specs.Demand.{idles};
+ghost use Rattle.model.specs.Calls.{idles};
 ghost use Rattle.parts.specs.Calls.{callIn, deliveryIn};
 ghost use Rattle.parts.specs.Views.{arrays, stateIn};
 ghost use Rattle.slot.specs.Says.{Ready};

@@ -3,7 +3,7 @@
 use mathlib.Core.Path.{_≡_, refl, ap, sym, _∙_}
 use mathlib.Core.Bool.{false}
 use mathlib.Core.List.{List, [], _∷_, _++_, append-assoc}
-use Prim.Native.Nat.{ℕ, zero, suc, _+_, _≤_}
+use Prim.Native.Nat.{ℕ, zero, suc, _+_}
 use native.Mathlib.Omega.{arith}
 use native.Mathlib.Nat.{add-zero}
 use lib.Dec.{eqb}
@@ -12,11 +12,10 @@ use borrow.Author.Tests.{ne-eqb}
 use Rattle.model.specs.Words.{choose, All}
 use Rattle.model.specs.Sizes.{Design}
 use Rattle.model.specs.State.{State}
-use Rattle.model.specs.Slot.{Call, slot}
+use Rattle.model.specs.Slot.{Call}
 use Rattle.model.specs.Lists.{Step, run, lastState, lastStore, accepted}
 use Rattle.model.specs.Idle.{QuietStep}
-use Rattle.model.proofs.Words.{by-test}
-use Rattle.model.proofs.Idle.{run-append}
+use Rattle.model.proofs.Lists.{run-append}
 use Rattle.lines.specs.Lines.{Line, text, lineText}
 use Rattle.printout.specs.Run.{answerLines, countOn, slotLines}
 
@@ -45,20 +44,6 @@ accepted-append (step ∷ xs) ys = by-number (step .number) (accepted-append xs 
 pub accepted-length-append : (xs ys : List Step)
     → length (accepted (xs ++ ys)) ≡ length (accepted xs) + length (accepted ys)
 accepted-length-append xs ys = ap length (accepted-append xs ys) ∙ length-append (accepted xs) (accepted ys)
-
--- At most as many are accepted as there are slots, and a run has a slot for each call.
-pub accepted-few : (steps : List Step) → length (accepted steps) ≤ length steps
-accepted-few [] = omega arith
-accepted-few (step ∷ steps) =
-    by-test (eqb (step .number) 0)
-    (λ t. rw t (omega (arith, accepted-few steps)))
-    (λ t. rw t (omega (arith, accepted-few steps)))
-
-pub run-length : (design : Design) (x : State) (store : List ℕ) (calls : List Call)
-    → length (run design x store calls) ≡ length calls
-run-length design x store [] = refl
-run-length design x store (call ∷ calls) =
-    ap suc (run-length design (slot design x store call .state) (slot design x store call .store) calls)
 
 -- The count goes on by one with each slot that is accepted.
 count-goes-on : (t n : ℕ) (step : Step) (steps : List Step)

@@ -11,11 +11,13 @@ use lib.Dec.{eqb, ltb}
 use lib.ListN.{length, replicate, length-append}
 use borrow.Author.Tests.{eqb-true, ltb-true, ltb-false, not-false}
 use Rattle.model.specs.Words.{choose, All, when, firstRefusal}
-use Rattle.model.specs.Sizes.{Sizes, accepts, paper, paperLimits, sizeRules, storeBytes}
+use Rattle.model.specs.Sizes.{Sizes, accepts, paper, paperLimits, storeBytes}
 use Rattle.model.specs.State.{Byte, fresh}
 use Rattle.model.specs.Lists.{Step, accepted, deliveries}
 use Rattle.model.specs.Demand.{NoMiss, ListMeets}
-use Rattle.model.proofs.Words.{by-test, all-of-facts, all-true-at, between-facts, no-refusal-at, when-zero}
+use Rattle.model.proofs.Words.{by-test, all-of-facts, no-refusal-at, when-zero}
+use Rattle.model.proofs.Limits.{within-limits}
+use Rattle.model.proofs.Lists.{run-length, accepted-few}
 use Rattle.model.proofs.Demand.{every-list}
 use Rattle.commands.specs.Commands as of
 use Rattle.commands.specs.Scripts.{Script, judge}
@@ -24,7 +26,7 @@ use Rattle.printout.specs.Run.{mostBytes, slotsOfAll, sizesOf, deliveryL
 use Rattle.printout.specs.Run.{listLines, startNumber, stepsOf, startedLines, judgedLines, scriptLines}
 use Rattle.printout.specs.Run.{outputBound}
 use Rattle.printout.proofs.Examples.{listing, prints}
-use Rattle.printout.proofs.Append.{text-append, refused-test, accepted-few, run-length}
+use Rattle.printout.proofs.Append.{text-append, refused-test}
 use Rattle.printout.proofs.Lengths.{mostSlots, delivery-length, refusal-length, ending-length, fault-length}
 use Rattle.printout.proofs.Lengths.{one-line-length, start-lines-length}
 use Rattle.printout.proofs.Delivered.{IfAny, one, present, TakesSmall, SmallByte}
@@ -100,14 +102,14 @@ two-tests-low true u = omega arith
 two-tests-low false true = omega arith
 two-tests-low false false = omega arith
 
-start-low : (s : Sizes) (store : List ℕ) → startNumber s store ≤ 2
+pub start-low : (s : Sizes) (store : List ℕ) → startNumber s store ≤ 2
 start-low s store = two-tests-low (not (accepts paperLimits s)) (ltb (length store) (storeBytes s))
 
 module _ (s : Sizes) (store : List ℕ) (e : startNumber s store ≡ 0) where
   abbrev tests : List ℕ
   tests = when (not (accepts paperLimits s)) 1 ∷ when (ltb (length store) (storeBytes s)) 2 ∷ []
 
-  sizes-accepted : accepts paperLimits s ≡ true
+  pub sizes-accepted : accepts paperLimits s ≡ true
   sizes-accepted =
       not-false (accepts paperLimits s) (when-zero (not (accepts paperLimits s)) 0 (no-refusal-at tests 0 e))
 
@@ -115,9 +117,6 @@ module _ (s : Sizes) (store : List ℕ) (e : startNumber s store ≡ 0) where
   store-long =
       ltb-false (length store) (storeBytes s)
       (when-zero (ltb (length store) (storeBytes s)) 1 (no-refusal-at tests 1 e))
-
-few-queues : (s : Sizes) → accepts paperLimits s ≡ true → s .Q ≤ 64
-few-queues s e = between-facts 1 (s .Q) 64 (all-true-at (sizeRules paperLimits s) 0 e) .1
 
 -- Demand 3 rules out every refusal that an idle slot could have.
 none-of-idle : (steps : List Step) → All NoMiss steps → All (λ (step : Step). step .number ≡ 3 → ⊥) steps
@@ -165,7 +164,7 @@ module _ (cs : List of.Command) (store : List ℕ) (e : startNumber (sizesOf cs)
       )
     where
       two-digits : sizesOf cs .Q ≤ 100
-      two-digits = omega (arith, few-queues (sizesOf cs) (sizes-accepted (sizesOf cs) store e))
+      two-digits = omega (arith, within-limits paperLimits (sizesOf cs) (sizes-accepted (sizesOf cs) store e) .q-high)
 
       as-many : length steps ≡ length (slotsOfAll cs)
       as-many = run-length paper (fresh paper (sizesOf cs)) store (slotsOfAll cs)

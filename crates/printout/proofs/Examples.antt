@@ -8,7 +8,7 @@ use Prim.Native.String.{String, [] as no-text, _∷_ as _then_}
 use lib.ListN.{replicate}
 use Rattle.commands.specs.Scripts.{judge, judgeFrom}
 use Rattle.lines.specs.Lines.{text, decimal, lineText}
-use Rattle.printout.specs.Run.{scriptLines, scriptStore}
+use Rattle.printout.specs.Run.{scriptLines, scriptStore, storeLent, programText}
 
 -- A row: a script, how many bytes of store it has, and the text that it is to print.
 pub record Example : Type 0 where
@@ -121,3 +121,15 @@ counts =
 counts-print : AsPrinted counts
 unfolding scriptLines judge judgeFrom decimal lineText
 counts-print = refl
+
+-- "lends a store of 65,536": what the program prints for the listing, for sizes that need 65,536 bytes of store, and
+-- for sizes that need 65,540.
+abbrev programInputs : List Example
+programInputs =
+    listing ∷
+    example (0x10 ∷ 64 ∷ 8 ∷ 128 ∷ 0x05 ∷ []) storeLent "E 0\n" ∷
+    example (0x10 ∷ 20 ∷ 29 ∷ 113 ∷ 0x05 ∷ []) storeLent "R 0 2\nE 0\n" ∷ []
+
+program-prints : map (λ (row : Example). programText (row .script)) programInputs ≡ map printedBytes programInputs
+unfolding programText scriptLines judge judgeFrom decimal lineText
+program-prints = refl

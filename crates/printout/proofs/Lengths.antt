@@ -1,12 +1,13 @@
 -- How long a line is: its letter, its newline, and for each number a space and its digits. So a line that a slot prints
 -- has at most 20 bytes, as slot numbers have at most 10 digits, queues and refusals 2, bytes 3.
-use mathlib.Core.Path.{_≡_, refl}
+use mathlib.Core.Path.{_≡_, refl, ap}
 use mathlib.Core.List.{List, [], _∷_}
 use Prim.Native.Nat.{ℕ, _+_, _≤_, _<_}
 use native.Mathlib.Omega.{arith}
 use lib.ListN.{length, length-append}
 use Rattle.lines.specs.Lines.{Line, delivery, refusal, ending, fault, numbers, decimal, numbersText, lineText, text}
 use Rattle.lines.proofs.Decimal.{decimal-length}
+use Rattle.lines.proofs.Pieces.{one-line}
 
 -- The bytes of numbers with a space before each.
 abbrev spacedLength : List ℕ → ℕ
@@ -47,7 +48,7 @@ fault-length n offset hn ho =
 
 -- The text of one line.
 pub one-line-length : (line : Line) → length (text (line ∷ [])) ≡ length (lineText line)
-one-line-length line = omega (arith, length-append (lineText line) [])
+one-line-length line = ap length (one-line line)
 
 -- The two lines of sizes that are not accepted and of a store that is too short.
 pub start-lines-length : (n : ℕ) → n < 10 → length (text (refusal 0 n ∷ ending 0 ∷ [])) ≤ 10

@@ -10,3 +10,6 @@ pub mod Delivered
 pub mod SlotCharges
 pub mod ScriptCharges
 pub mod Bound
+-- What no script prints, and what the program needs to read and to lend.
+pub mod Never
+pub mod Program

@@ -11,8 +11,7 @@ use lib.ListN.{length, drop, getD, length-drop, length-append, length-replicate}
 use borrow.Author.Tests.{ltb-false}
 use Rattle.model.specs.Words.{choose, All}
 use Rattle.model.specs.Slot.{Call}
-use Rattle.model.specs.Demand.{idles}
-use Rattle.model.specs.Idle.{idle}
+use Rattle.model.specs.Calls.{idle, idles}
 use Rattle.model.proofs.Words.{all-append}
 use Rattle.commands.specs.Commands as of
 use Rattle.commands.specs.Scripts.{Reading, refused, taken, outOfPlace, readKnown, readCode, readCommand, Script}

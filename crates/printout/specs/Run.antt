@@ -3,16 +3,16 @@ use mathlib.Core.List.{List, [], _∷_, _++_}
 use mathlib.Core.Option.{Option, some, none}
 use Prim.Native.Nat.{ℕ, zero, suc, _+_, _*_, min}
 use lib.Dec.{eqb, ltb}
-use lib.ListN.{length, getD}
+use lib.ListN.{length, getD, replicate}
 use Rattle.model.specs.Words.{choose, when, firstRefusal}
 use Rattle.model.specs.Sizes.{Sizes, sizes, paper, storeBytes}
 use Rattle.model.specs.State.{Byte, byte, fresh, makingNumber}
 use Rattle.model.specs.Slot.{Call}
+use Rattle.model.specs.Calls.{idles}
 use Rattle.model.specs.Lists.{Step, lastStore, listOf, accepted}
-use Rattle.model.specs.Demand.{idles}
 use Rattle.commands.specs.Commands as of
 use Rattle.commands.specs.Scripts.{Script, judge}
-use Rattle.lines.specs.Lines.{Line, delivery, refusal, ending, fault}
+use Rattle.lines.specs.Lines.{Line, delivery, refusal, ending, fault, text}
 
 -- "reads a script of at most 65,536 bytes"
 abbrev pub mostBytes : ℕ
@@ -105,6 +105,14 @@ scriptLines bytes store =
 
 unfoldable pub scriptStore : List ℕ → List ℕ → List ℕ
 scriptStore bytes store = choose (ltb mostBytes (length bytes)) store (judgedStore (judge bytes) store)
+
+-- "The program slots reads a script of at most 65,536 bytes and lends a store of 65,536. It prints ..": the text that
+-- it prints for an input of any length. What the store holds at first the paper leaves open, and it is zeros.
+abbrev pub storeLent : ℕ
+storeLent = 65536
+
+unfoldable pub programText : List ℕ → List ℕ
+programText bytes = text (scriptLines bytes (replicate storeLent 0))
 
 -- How much output a script of n bytes can need (`text-fits`, proofs/Bound.antt).
 abbrev pub outputBound : ℕ → ℕ

@@ -18,6 +18,7 @@ ghost use Rattle.parts.specs.Figures.{figuresIn, newCell};
 ghost use Rattle.refusals.specs.Says.{arrivalNumber, owesNow, arrivesAt, requestNumber, leavingNumber};
 ghost use Rattle.refusals.specs.Says.{tailNumber, earlyNumber, readNow, fullNow, PlanSays};
 use caches::Chosen;
+use lookahead::OWED;
 use parts::Arrival;
 use parts::Request;
 use parts::Small;
@@ -112,7 +113,7 @@ pub fn judge_leaving(heads: &[u16; 64], cell: u32) -> u8
     requires { ⌜ (length (now heads) ≡ 64) × (cellBelow 64 (cellOf cell) ≡ true) ⌝ }
     ensures { λ r. ⌜ r ≡ leavingNumber (countsIn (now (heads .entry))) (cellOf cell) ⌝ }
 {
-    if 131072 <= cell {
+    if OWED <= cell {
         let q = (cell / 256 % 256) as usize;
         if heads[q] == 0 {
             return 8;
@@ -232,7 +233,7 @@ pub fn head_full(small: Small, cell: u32, read: Chosen) -> bool
         Chosen::Nothing => false,
         Chosen::Queue(q) => {
             let size = 2 * (small.queues * (small.block - 1)) + 1;
-            if 131072 <= cell {
+            if OWED <= cell {
                 return size + 1 < small.head_fill + small.block;
             }
             size < small.head_fill + small.block

@@ -6,46 +6,35 @@ use mathlib.Core.List.{List}
 use Prim.Native.Nat.{ℕ, _≤_, _<_}
 use native.Mathlib.Omega.{arith}
 use lib.ListN.{length, getD}
-use borrow.Author.Tests.{ltb-true, lt-ltb}
 use Rattle.model.specs.Words.{allOf, allBelow}
 use Rattle.model.specs.Sizes.{paper, lookahead}
-use Rattle.model.specs.State.{Byte, Cell, empty, held, owed, Ring, State, ringOf, blocks}
+use Rattle.model.specs.State.{Byte, Cell, Ring, State, ringOf, blocks}
 use Rattle.model.specs.State.{tailBytes, headBytes, owedCells, byteBelow, cellBelow, rules, keeps}
 use Rattle.model.specs.State.{firstInRange, hasRoom, isBacked}
-use Rattle.model.proofs.Words.{by-test, and-both, true-not-false, all-of-facts, all-of-holds, all-true-at}
+use Rattle.model.proofs.Words.{by-test, and-both, true-not-false, all-true-at}
 use Rattle.model.proofs.Words.{all-below-facts, all-below-holds}
-use Rattle.model.proofs.Bytes.{Below}
-use Rattle.model.proofs.Cells.{CellBelow, cell-below-fact}
+use Rattle.model.proofs.Bytes.{below-facts, below-holds}
+use Rattle.model.proofs.Cells.{cells-below-facts, cells-below-holds}
 use Rattle.model.proofs.Rules.{keeps-facts, keeps-holds}
 use Rattle.caches.specs.Views.{countsIn}
 use Rattle.caches.specs.Says.{Tally}
-use Rattle.caches.proofs.Entries.{bytes-length}
 use Rattle.lookahead.specs.Says.{TallyOwed}
 use Rattle.lookahead.proofs.Cells.{cells-length}
 use Rattle.parts.specs.declared.Small.{Small}
 use Rattle.parts.specs.Views.{Arrays, Long, sizesIn, stateIn}
 use Rattle.parts.proofs.Rings.{rings-length, ring-at}
-use Rattle.parts.proofs.Fits.{tail-below-array, head-below-array, fill-within}
+use Rattle.parts.proofs.Fits.{tail-in-array, head-in-array, tail-length, head-length}
 use Rattle.rules.specs.Says.{fillsFit, ringKeeps, queueKeeps, queuesKeep}
 use Rattle.rules.proofs.Numbers.{Fit, fit-holds, tail-within, head-within, cells-within}
 use Rattle.rules.proofs.Queues.{ring-first, ring-room, ring-backed}
 
 -- Queue numbers below one bound are below a greater one.
 pub bytes-wider : (n m : ℕ) → n ≤ m → (xs : List Byte) → allOf (byteBelow n) xs ≡ true → allOf (byteBelow m) xs ≡ true
-bytes-wider n m h xs e =
-    all-of-holds (byteBelow m) (λ (y : Byte). y .queue < n) (λ y l. lt-ltb (y .queue) m (omega (arith, l))) xs
-    (all-of-facts (byteBelow n) (λ (y : Byte). y .queue < n) (λ y t. ltb-true (y .queue) n t) xs e)
-
-cell-wider : (n m : ℕ) → n ≤ m → (c : Cell) → CellBelow n c → cellBelow m c ≡ true
-cell-wider n m h empty k = refl
-cell-wider n m h (held q v) k = lt-ltb q m (omega (arith, k))
-cell-wider n m h (owed q) k = lt-ltb q m (omega (arith, k))
+bytes-wider n m h xs e = below-holds n m h xs (below-facts n xs e)
 
 pub cells-wider : (n m : ℕ) → n ≤ m → (cells : List Cell) → allOf (cellBelow n) cells ≡ true
     → allOf (cellBelow m) cells ≡ true
-cells-wider n m h cells e =
-    all-of-holds (cellBelow m) (CellBelow n) (cell-wider n m h) cells
-    (all-of-facts (cellBelow n) (CellBelow n) (cell-below-fact n) cells e)
+cells-wider n m h cells e = cells-below-holds n m h cells (cells-below-facts n cells e)
 
 same-test : (s t : Bool) → (s ≡ true → t ≡ true) → (t ≡ true → s ≡ true) → s ≡ t
 same-test true t f g = sym (f refl)
@@ -66,18 +55,14 @@ module _ (small : Small) (m : Arrays) (long : Long m) where
   kept-fit : keeps paper x ≡ true → Fit small
   kept-fit e =
       let v = keeps-facts paper x e in
-      let tail-in : small .«tail_fill» < length (m .tail) =
-      fill-within (small .«tail_fill») (m .tail)
-      (omega (arith, v .tail-fits, tail-below-array (sizesIn small) (v .sizes-ok), long .tail-long)) in
-      let head-in : small .«head_fill» < length (m .head) =
-      fill-within (small .«head_fill») (m .head)
-      (omega (arith, v .head-fits, head-below-array (sizesIn small) (v .sizes-ok), long .head-long)) in
+      let tail-in = tail-in-array small m long (v .sizes-ok) (v .tail-fits) in
+      let head-in = head-in-array small m long (v .sizes-ok) (v .head-fits) in
       record {
         sizes-ok = v .sizes-ok;
         phase-ok = v .phase-ok;
-        tail-low = omega (arith, v .tail-mark .0, bytes-length (small .«tail_fill») (m .tail) (omega (arith, tail-in)));
+        tail-low = omega (arith, v .tail-mark .0, tail-length small m long tail-in);
         tail-high = v .tail-mark .1;
-        head-low = omega (arith, v .head-mark .0, bytes-length (small .«head_fill») (m .head) (omega (arith, head-in)));
+        head-low = omega (arith, v .head-mark .0, head-length small m long head-in);
         head-high = v .head-mark .1;
       }
 
@@ -134,9 +119,9 @@ module _ (small : Small) (m : Arrays) (long : Long m) where
       sizes-ok = f .sizes-ok;
       phase-ok = f .phase-ok;
       within = record {
-        tail-below = bytes-facts (x .tail) tail-below;
-        head-below = bytes-facts (x .head) head-below;
-        cells-below = all-of-facts (cellBelow Q) (CellBelow Q) (cell-below-fact Q) (x .cells) cells-below;
+        tail-below = below-facts (small .queues) (x .tail) tail-below;
+        head-below = below-facts (small .queues) (x .head) head-below;
+        cells-below = cells-below-facts (small .queues) (x .cells) cells-below;
         cells-long = cells-length (lookahead (sizesIn small)) (m .cells)
             (omega (arith, cells-within small f, long .cells-long));
         rings-long = rings-length (small .queues) (m .firsts) (m .counts);
@@ -147,23 +132,17 @@ module _ (small : Small) (m : Arrays) (long : Long m) where
         backed = λ q l. ring-backed small (ringOf (x .rings) q .first) (blocks x q) (tailBytes x q) (headBytes x q)
             (owedCells x q) (queue-holds q l);
       };
-      tail-fits = omega (arith, tail-length, f .tail-low, f .tail-high);
-      head-fits = omega (arith, head-length, f .head-low, f .head-high);
-      tail-mark = (omega (arith, tail-length, f .tail-low), f .tail-high);
-      head-mark = (omega (arith, head-length, f .head-low), f .head-high);
+      tail-fits = omega (arith, tail-long, f .tail-low, f .tail-high);
+      head-fits = omega (arith, head-long, f .head-low, f .head-high);
+      tail-mark = (omega (arith, tail-long, f .tail-low), f .tail-high);
+      head-mark = (omega (arith, head-long, f .head-low), f .head-high);
     })
       where
-        Q : ℕ
-        Q = small .queues
+        tail-long : length (x .tail) ≡ small .«tail_fill»
+        tail-long = tail-length small m long (tail-within small f)
 
-        bytes-facts : (ys : List Byte) → allOf (byteBelow Q) ys ≡ true → Below Q ys
-        bytes-facts ys h = all-of-facts (byteBelow Q) (λ (y : Byte). y .queue < Q) (λ y k. ltb-true (y .queue) Q k) ys h
-
-        tail-length : length (x .tail) ≡ small .«tail_fill»
-        tail-length = bytes-length (small .«tail_fill») (m .tail) (omega (arith, tail-within small f, long .tail-long))
-
-        head-length : length (x .head) ≡ small .«head_fill»
-        head-length = bytes-length (small .«head_fill») (m .head) (omega (arith, head-within small f, long .head-long))
+        head-long : length (x .head) ≡ small .«head_fill»
+        head-long = head-length small m long (head-within small f)
 
         queue-holds : (q : ℕ) → q < small .queues → inModel q ≡ true
         queue-holds q l = sym (queue-same q l) ∙ all-below-facts (small .queues) atQueue e q l

@@ -1,7 +1,7 @@
 -- The numbers of a state fit exactly where the sizes are accepted, the phase is below b and each mark lies between its
 -- fill and its cache size; and then fills and lookahead lie within their arrays.
-use mathlib.Core.Path.{_≡_, refl, sym, _∙_}
-use mathlib.Core.Bool.{Bool, true, false, _&&_}
+use mathlib.Core.Path.{_≡_, sym, _∙_}
+use mathlib.Core.Bool.{Bool, true, false, and-true}
 use mathlib.Core.List.{List, [], _∷_}
 use Prim.Native.Nat.{ℕ, _≤_, _<_}
 use native.Mathlib.Omega.{arith}
@@ -64,11 +64,7 @@ fit-decided small sizes-ok phase-ok tail-low tail-high head-low =
       between-holds (small .«tail_fill») (small .«tail_mark») (tailSize (sizesIn small)) tail-low tail-high,
       le-leb (small .«head_fill») (small .«head_mark») head-low,
     )
-    (last (leb (small .«head_mark») (headSize (sizesIn small))))
-  where
-    last : (t : Bool) → t ≡ (t && true)
-    last true = refl
-    last false = refl
+    (sym (and-true (leb (small .«head_mark») (headSize (sizesIn small)))))
 
 pub fit-holds : (small : Small) → Fit small → fillsFit small ≡ true
 fit-holds small f =
@@ -86,4 +82,4 @@ pub head-within : (small : Small) → Fit small → small .«head_fill» < 4034
 head-within small f = omega (arith, f .head-low, f .head-high, head-below-array (sizesIn small) (f .sizes-ok))
 
 pub cells-within : (small : Small) → Fit small → lookahead (sizesIn small) ≤ 2017
-cells-within small f = omega (arith, in-limits small (f .sizes-ok) .span)
+cells-within small f = omega (arith, in-limits small (f .sizes-ok) .span-high)

@@ -1,6 +1,6 @@
 -- All queues keep their rules exactly where each does: the loop adds one queue that does, or ends at one that does not.
-use mathlib.Core.Path.{_≡_, refl, sym, _∙_}
-use mathlib.Core.Bool.{Bool, true, false, _&&_}
+use mathlib.Core.Path.{_≡_, sym, _∙_}
+use mathlib.Core.Bool.{Bool, true, false, _&&_, and-true}
 use mathlib.Core.List.{List}
 use Prim.Native.Nat.{ℕ, _+_, _*_, _≤_, _<_}
 use native.Mathlib.Omega.{arith}
@@ -48,11 +48,7 @@ module _ (small : Small) (first count tail head owed : ℕ) where
       → backed ≡ ringKeeps small first count tail head owed
   ring-decided h k =
       rw (lt-ltb first (small .blocks) h, le-leb (tail + small .block * count) (small .blocks * small .block) k)
-      (last backed)
-    where
-      last : (t : Bool) → t ≡ (t && true)
-      last true = refl
-      last false = refl
+      (sym (and-true backed))
 
 -- The products of one queue's numbers are small.
 pub blocks-small : (small : Small) (count : ℕ) → InLimits small → count < 256 → small .block * count ≤ 32640

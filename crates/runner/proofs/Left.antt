@@ -1,9 +1,8 @@
 -- What is left of a script that was judged good. The reader takes a command there, since a refusal would be the
 -- script's fault; and what follows the command is good again: the script from there on, or nothing behind the end.
 use mathlib.Core.Path.{_≡_, refl, ap, sym, _∙_}
-use mathlib.Core.Bool.{Bool, true, false, not}
+use mathlib.Core.Bool.{Bool, true, false, not, Bool·not-not}
 use mathlib.Core.List.{List, [], _∷_, _++_}
-use mathlib.Core.Option.{Option, some, none}
 use Prim.Native.Nat.{ℕ, _+_, _-_, _≤_, _<_}
 use native.Mathlib.Omega.{arith}
 use lib.Dec.{ltb}
@@ -13,11 +12,12 @@ use borrow.Author.Tests.{ltb-true, ltb-false, lt-ltb, le-ltb}
 use Rattle.model.specs.Words.{choose}
 use Rattle.model.proofs.Words.{by-test}
 use Rattle.model.specs.Sizes as of
-use Rattle.commands.specs.Commands.{Kind, sizes, Command, command, row, isSizes, isEnd, kindOf, widths}
-use Rattle.commands.specs.Scripts.{refused, taken, outOfPlace, readKnown, readCode, readCommand, Script, afterEnd}
+use Rattle.commands.specs.Commands.{sizes, Command, command, isSizes, isEnd}
+use Rattle.commands.specs.Scripts.{Reading, refused, taken, readCommand, Script, afterEnd}
 use Rattle.commands.specs.Scripts.{withCommand, judgeFrom, judge}
-use Rattle.commands.proofs.Judging.{refused-not-taken, taken-same-command, reads-out-of-place, reads-cut-short}
-use Rattle.commands.proofs.Judging.{reads-taken, taken-length, judged-refused, judged-end, judged-on, judged-from-start}
+use Rattle.commands.proofs.Judging.{refused-not-taken, taken-same-command, ReadAs, no-byte, no-kind, out-of-place}
+use Rattle.commands.proofs.Judging.{cut-short, takes, read-as, moves-on, judged-refused, judged-end, judged-on}
+use Rattle.commands.proofs.Judging.{judged-from-start}
 use Rattle.printout.specs.Run.{slotsOf, slotsOfAll, sizesOf}
 use Rattle.runner.specs.declared.FirstSizes.{FirstSizes}
 use Rattle.runner.specs.Says.{scriptFrom, callsFrom, SizesSays}
@@ -26,58 +26,27 @@ use Rattle.runner.specs.Says.{scriptFrom, callsFrom, SizesSays}
 refused-same : (n k : ℕ) → refused n ≡ refused k → n ≡ k
 refused-same n k e = cc
 
-known-refused : (first : Bool) (k : Kind) (bytes : List ℕ) (n : ℕ) → readKnown first k bytes ≡ refused n → 1 ≤ n
-known-refused first k bytes n e =
-    by-test (outOfPlace first k)
-    (λ t. omega (arith, refused-same 14 n (sym (reads-out-of-place first k bytes t) ∙ e)))
-    (λ t. by-test (ltb (length bytes) (widths (row k .operands)))
-    (λ u.
-    let short = ltb-true (length bytes) (widths (row k .operands)) u in
-    omega (arith, refused-same 13 n (sym (reads-cut-short first k bytes t short) ∙ e)))
-    (λ u.
-    let long = ltb-false (length bytes) (widths (row k .operands)) u in
-    absurd (refused-not-taken n _ _ (sym e ∙ reads-taken first k bytes t long))))
-
-code-refused : (first : Bool) (found : Option Kind) (bytes : List ℕ) (n : ℕ) → readCode first found bytes ≡ refused n
-    → 1 ≤ n
-code-refused first none bytes n e = omega (arith, refused-same 12 n e)
-code-refused first (some k) bytes n e = known-refused first k bytes n e
-
-pub refused-some : (first : Bool) (bytes : List ℕ) (n : ℕ) → readCommand first bytes ≡ refused n → 1 ≤ n
-refused-some first [] n e = omega (arith, refused-same 15 n e)
-refused-some first (code ∷ bytes) n e = code-refused first (kindOf code) bytes n e
+refusal-some : {first : Bool} {bytes : List ℕ} {r : Reading} → ReadAs first bytes r → (n : ℕ) → r ≡ refused n → 1 ≤ n
+refusal-some no-byte n e = omega (arith, refused-same 15 n e)
+refusal-some (no-kind code bytes) n e = omega (arith, refused-same 12 n e)
+refusal-some (out-of-place code bytes) n e = omega (arith, refused-same 14 n e)
+refusal-some (cut-short code bytes) n e = omega (arith, refused-same 13 n e)
+refusal-some (takes code bytes k t long) n e = absurd (refused-not-taken n _ _ (sym e))
 
 -- The first command that is taken is sizes.
-sizes-in-place : (k : Kind) → outOfPlace true k ≡ false → isSizes k ≡ true
-sizes-in-place k t = go (isSizes k) t
-  where
-    go : (b : Bool) → not b ≡ false → b ≡ true
-    go true t = refl
-    go false t = sym t
-
-known-first : (k : Kind) (bytes : List ℕ) (c : Command) (n : ℕ) → readKnown true k bytes ≡ taken c n
+taken-sizes : {bytes : List ℕ} {r : Reading} → ReadAs true bytes r → (c : Command) (n : ℕ) → r ≡ taken c n
     → isSizes (c .kind) ≡ true
-known-first k bytes c n e =
-    by-test (outOfPlace true k)
-    (λ t. absurd (refused-not-taken 14 c n (sym (reads-out-of-place true k bytes t) ∙ e)))
-    (λ t. by-test (ltb (length bytes) (widths (row k .operands)))
-    (λ u.
-    let short = ltb-true (length bytes) (widths (row k .operands)) u in
-    absurd (refused-not-taken 13 c n (sym (reads-cut-short true k bytes t short) ∙ e)))
-    (λ u.
-    let long = ltb-false (length bytes) (widths (row k .operands)) u in
-    let same = taken-same-command _ c _ n (sym (reads-taken true k bytes t long) ∙ e) in
-    ap (λ (d : Command). isSizes (d .kind)) (sym same) ∙ sizes-in-place k t))
-
-code-first : (found : Option Kind) (bytes : List ℕ) (c : Command) (n : ℕ) → readCode true found bytes ≡ taken c n
-    → isSizes (c .kind) ≡ true
-code-first none bytes c n e = absurd (refused-not-taken 12 c n e)
-code-first (some k) bytes c n e = known-first k bytes c n e
+taken-sizes no-byte c n e = absurd (refused-not-taken 15 c n e)
+taken-sizes (no-kind code bytes) c n e = absurd (refused-not-taken 12 c n e)
+taken-sizes (out-of-place code bytes) c n e = absurd (refused-not-taken 14 c n e)
+taken-sizes (cut-short code bytes) c n e = absurd (refused-not-taken 13 c n e)
+taken-sizes (takes code bytes k t long) c n e =
+    ap (λ (d : Command). isSizes (d .kind)) (sym (taken-same-command _ c _ n e))
+    ∙ sym (Bool·not-not (isSizes k)) ∙ ap not t
 
 pub first-is-sizes : (bytes : List ℕ) (c : Command) (n : ℕ) → readCommand true bytes ≡ taken c n
     → isSizes (c .kind) ≡ true
-first-is-sizes [] c n e = absurd (refused-not-taken 15 c n e)
-first-is-sizes (code ∷ bytes) c n e = code-first (kindOf code) bytes c n e
+first-is-sizes bytes c n e = taken-sizes (read-as true bytes) c n e
 
 -- Before the end of a script, and at it.
 from-within : (script : List ℕ) (at : ℕ) → at < length script
@@ -103,18 +72,13 @@ module _ (first : Bool) (script : List ℕ) (at : ℕ) (good : judgeFrom first a
   not-refused n e =
       omega (
         arith,
-        refused-some first (drop at script) n (sym e),
+        refusal-some (read-as first (drop at script)) n (sym e),
         sym (ap (λ (s : Script). s .number) (judged-refused first at (drop at script) n (sym e))) ∙ good,
       )
 
   module _ (c : Command) (n : ℕ) (e : taken c n ≡ readCommand first (drop at script)) where
     abbrev rest : List ℕ
     rest = drop n (drop at script)
-
-    pub moves-on : (1 ≤ n) × (at + n ≤ length script)
-    moves-on =
-        let long = taken-length first (drop at script) c n (sym e) in
-        (long .0, omega (arith, long .0, long .1, length-drop at script))
 
     rest-is : rest ≡ drop (at + n) script
     rest-is = drop-drop n at script
@@ -181,8 +145,8 @@ module _ (script : List ℕ) (at : ℕ) (more : at < length script) (good : scri
 
   pub next-command : (c : Command) (n : ℕ) → taken c n ≡ readCommand false (drop at script) → Next script at c n
   next-command c n e = record {
-    some-bytes = moves-on false script at good-here c n e .0;
-    within = moves-on false script at good-here c n e .1;
+    some-bytes = moves-on false script at c n (sym e) .0;
+    within = moves-on false script at c n (sym e) .1;
     good-behind = rest-good false script at good-here c n e;
     calls-are =
         ap (λ (s : Script). slotsOfAll (s .commands)) (from-within script at more)

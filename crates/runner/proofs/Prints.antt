@@ -1,8 +1,8 @@
 -- What a script prints, put together from its parts: the slots' lines and then the last one, or a refusal of the start
 -- and then the last line; and which of these a script that was judged good prints, by the number with which it starts.
 use mathlib.Core.Path.{_≡_, refl, ap, sym, _∙_, subst}
-use mathlib.Core.Bool.{Bool, true, false, not}
-use mathlib.Core.List.{List, [], _∷_, _++_, append-nil}
+use mathlib.Core.Bool.{Bool, true}
+use mathlib.Core.List.{List, [], _∷_, _++_}
 use Prim.Native.Nat.{ℕ, zero, suc, _+_, _*_, _≤_, _<_}
 use native.Mathlib.Nat.{mul-le-mul}
 use native.Mathlib.Omega.{arith}
@@ -14,7 +14,7 @@ use Rattle.model.specs.Sizes.{Sizes, sizes, paperLimits, accepts, paper, storeB
 use Rattle.model.specs.State.{State, fresh, makingNumber, keeps}
 use Rattle.model.specs.Slot.{Call}
 use Rattle.model.specs.Lists.{run, lastStore, accepted}
-use Rattle.model.proofs.Rules.{keeps-fresh, keeps-holds}
+use Rattle.model.proofs.Rules.{made-accepted, keeps-fresh, keeps-holds}
 use Rattle.parts.specs.Views.{Arrays}
 use Rattle.parts.proofs.Ranges.{InLimits, in-limits}
 use Rattle.buffer.specs.declared.Made.{Made}
@@ -24,6 +24,7 @@ use Rattle.commands.specs.Scripts.{Script}
 use Rattle.lines.specs.Lines.{Line, refusal, ending, fault, lineText, text}
 use Rattle.lines.specs.Says.{PutSays}
 use Rattle.lines.proofs.Placed.{put-then-put, put-keeps-length}
+use Rattle.lines.proofs.Pieces.{one-line}
 use Rattle.printout.specs.Run.{slotsOfAll, sizesOf, slotLines, listLines, startNumber, startedLines, startedStore}
 use Rattle.printout.specs.Run.{judgedLines, judgedStore}
 use Rattle.printout.proofs.Append.{text-append}
@@ -31,10 +32,7 @@ use Rattle.printer.specs.declared.Progress.{Progress}
 use Rattle.printer.specs.Says.{countLimit, RunsOn, Room}
 use Rattle.runner.specs.Says.{ListFits, PrintsSays}
 
--- The text of one line, and of two.
-pub one-line : (line : Line) → text (line ∷ []) ≡ lineText line
-one-line line = append-nil (lineText line)
-
+-- The text of two lines.
 two-lines : (first second : Line) → text (first ∷ second ∷ []) ≡ lineText first ++ lineText second
 two-lines first second = ap (λ (bytes : List ℕ). lineText first ++ bytes) (one-line second)
 
@@ -137,14 +135,6 @@ starts-well s store e h =
     ap (λ (n : ℕ). firstRefusal (n ∷ when (ltb (length store) (storeBytes s)) 2 ∷ [])) e
     ∙ ap (λ (t : Bool). firstRefusal (when t 2 ∷ [])) (le-ltb (length store) (storeBytes s) h)
 
--- Sizes that are not refused are accepted.
-not-refused-accepted : (s : Sizes) → makingNumber paper s ≡ 0 → accepts paperLimits s ≡ true
-not-refused-accepted s e = go (accepts paperLimits s) e
-  where
-    go : (t : Bool) → when (not t) 1 ≡ 0 → t ≡ true
-    go true e = refl
-    go false e = absurd (omega (arith, e))
-
 -- A script that was judged good, by the number with which it starts.
 module _ (script : Script) (good : script .number ≡ 0) (store : List ℕ) (n : ℕ)
     (starts : startNumber (sizesOf (script .commands)) store ≡ n) where
@@ -210,7 +200,7 @@ module _ (q b k : ℕ) (made : Made) (says : MakeSays q b k made) (taken : made 
   not-refused = sym (says .number-is) ∙ taken
 
   accepted-sizes : accepts paperLimits (sizes q b k) ≡ true
-  accepted-sizes = not-refused-accepted (sizes q b k) not-refused
+  accepted-sizes = made-accepted paper (sizes q b k) not-refused
 
   limits : InLimits (freshState q b k .small)
   limits = in-limits (freshState q b k .small) accepted-sizes

@@ -14,23 +14,17 @@ use Rattle.scripts.specs.declared.Judged.{Judged}
 use Rattle.scripts.specs.Says.{JudgeSays}
 use Rattle.lines.specs.Lines.{Line, fault, lineText, text}
 use Rattle.lines.specs.Says.{PutSays}
+use Rattle.lines.proofs.Pieces.{one-line}
 use Rattle.printout.specs.Run.{mostBytes, sizesOf, startNumber, startedLines, startedStore, judgedLines}
 use Rattle.printout.specs.Run.{judgedStore, scriptLines, scriptStore, outputBound}
 use Rattle.printout.proofs.Lengths.{fault-length}
 use Rattle.printout.proofs.ScriptCharges.{Bytes, slots-below}
 use Rattle.printout.proofs.Bound.{text-fits}
+use Rattle.printout.proofs.Program.{long-lines}
 use Rattle.runner.specs.declared.Ran.the-variants.{Printed, TooShort}
 use Rattle.runner.specs.Says.{GoodFits, PrintsSays, short, ScriptSays}
-use Rattle.runner.proofs.Prints.{one-line}
 
 -- Too long, or not.
-long-lines : (script store : List ℕ) → mostBytes < length script
-    → scriptLines script store ≡ fault 15 mostBytes ∷ []
-unfolding scriptLines
-long-lines script store h =
-    ap (λ (t : Bool). choose t (fault 15 mostBytes ∷ []) (judgedLines (judge script) store))
-    (lt-ltb mostBytes (length script) h)
-
 long-store : (script store : List ℕ) → mostBytes < length script → scriptStore script store ≡ store
 unfolding scriptStore
 long-store script store h =

@@ -2,7 +2,7 @@
 ghost use mathlib.Core.Path.{_≡_};
 ghost use mathlib.Core.Bool.{true};
 ghost use mathlib.Core.List.{[], _∷_};
-ghost use Prim.Native.Nat.{_≤_, min};
+ghost use Prim.Native.Nat.{_≤_};
 ghost use lib.ListN.{length};
 ghost use Rattle.model.specs.Sizes.{paper, storeBytes};
 ghost use Rattle.model.specs.State.{keeps};
@@ -218,16 +218,6 @@ fn print_script(script: &[u8], store: &mut [u8], output: &mut [u8]) -> usize
     run_good(script, store, output)
 }
 
-// The smaller of two numbers.
-fn smaller(a: usize, b: usize) -> usize
-    ensures { λ r. ⌜ r ≡ min a b ⌝ }
-{
-    if a < b {
-        return a;
-    }
-    b
-}
-
 // What running a script answers: how many bytes it printed, or that the output is too short for what it may print.
 pub enum Ran {
     Printed(usize),
@@ -239,7 +229,7 @@ pub fn run_script(script: &[u8], store: &mut [u8], output: &mut [u8]) -> Ran
     ensures { λ r. ⌜ ScriptSays (now (script .entry)) (now (store .entry)) (now (output .entry)) r
         (now (store .exit)) (now (output .exit)) ⌝ }
 {
-    let bytes = smaller(script.len(), MOST_BYTES);
+    let bytes = numbers::smaller(script.len(), MOST_BYTES);
     if output.len() < 10 * bytes + 11 {
         return Ran::TooShort;
     }

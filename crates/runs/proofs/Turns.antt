@@ -3,7 +3,7 @@
 use mathlib.Core.Path.{_≡_, refl, ap, sym, _∙_, subst}
 use mathlib.Core.List.{List, [], _∷_, _++_, map, map-append}
 use mathlib.Core.Option.{Option}
-use Prim.Native.Nat.{ℕ, suc, _+_, _<_, _≤_}
+use Prim.Native.Nat.{ℕ, _+_, _<_, _≤_}
 use native.Mathlib.Omega.{arith}
 use native.Mathlib.Numerals.{add-one}
 use lib.ListN.{length, take, drop, set, getD, length-map, length-drop, List·getD-map}
@@ -14,7 +14,7 @@ use Rattle.model.specs.Slot.{Call, Answer, slot}
 use Rattle.model.specs.Lists.{stepOf, run, lastState, lastStore}
 use Rattle.model.proofs.Rules.{keeps-facts}
 use Rattle.model.proofs.Kept.{slot-kept}
-use Rattle.model.proofs.Idle.{last-append, last-store-append, run-append}
+use Rattle.model.proofs.Lists.{last-append, last-store-append, run-append, run-length}
 use Rattle.caches.specs.Says.{chosenIn}
 use Rattle.parts.specs.declared.Small.{Small}
 use Rattle.parts.specs.declared.Arrival.{Arrival}
@@ -38,10 +38,6 @@ pub record RunTo (i : ℕ) (x : State) (store : List ℕ) (calls : List Call) (b
 pub run-starts : (x : State) (store : List ℕ) (calls : List Call) (before : List ℕ)
     → RunTo 0 x store calls before before x store
 run-starts x store calls before = record { within = omega arith; answers-are = refl; state-is = refl; store-is = refl }
-
-run-length : (x : State) (store : List ℕ) (calls : List Call) → length (run paper x store calls) ≡ length calls
-run-length x store [] = refl
-run-length x store (call ∷ calls) = ap suc (run-length _ _ calls)
 
 -- An element stored right behind a front.
 set-behind : (front back : List ℕ) (v : ℕ) → 1 ≤ length back
@@ -89,7 +85,7 @@ module _ {i : ℕ} {x : State} {store : List ℕ} {calls : List Call} {before af
     front-long : length front ≡ i
     front-long =
         length-map (run paper x store (take i calls)) wordOf
-        ∙ run-length x store (take i calls)
+        ∙ run-length paper x store (take i calls)
         ∙ length-take-le i calls (w .within)
 
     word-now : r .word ≡ word y z

@@ -10,7 +10,7 @@ use lib.Seq.{drop-drop}
 use Rattle.commands.specs.Commands.{Command, isEnd}
 use Rattle.commands.specs.Scripts.{refused, taken, readCommand, Script, afterEnd, withCommand}
 use Rattle.commands.specs.Scripts.{judgeFrom, judge}
-use Rattle.commands.proofs.Judging.{taken-length, judged-refused, judged-end, judged-on, judged-from-start}
+use Rattle.commands.proofs.Judging.{moves-on, judged-refused, judged-end, judged-on, judged-from-start}
 use Rattle.scripts.specs.Says.{JudgeSays}
 
 -- A place up to which a script has been judged, and whether its command is to be the first.
@@ -51,16 +51,11 @@ module _ {script : List ℕ} {at : ℕ} {first : Bool} (w : JudgedTo script at f
   judge-refuses {number} e = judged-so (judged-refused first at (drop at script) number (sym e))
 
   module _ {c : Command} {n : ℕ} (e : taken c n ≡ readCommand first (drop at script)) where
-    pub moves-on : (1 ≤ n) × (at + n ≤ length script)
-    moves-on =
-        let long = taken-length first (drop at script) c n (sym e) in
-        (long .0, omega (arith, long .1, length-drop at script, w .within))
-
     pub judge-goes-on : isEnd (c .kind) ≡ false → JudgedTo script (at + n) false
     judge-goes-on t =
         let judged = judged-on first at (drop at script) c n (sym e) t in
         record {
-          within = moves-on .1;
+          within = moves-on first script at c n (sym e) .1;
           number-is = w .number-is ∙ ap (λ (s : Script). s .number) judged ∙ rw (drop-drop n at script);
           offset-is = w .offset-is ∙ ap (λ (s : Script). s .offset) judged ∙ rw (drop-drop n at script);
         }

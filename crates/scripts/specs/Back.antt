@@ -1,4 +1,4 @@
--- "A command written reads back as itself", over calls: it cites the contracts of the writer, the reader and the judge
+-- "A command we wrote reads back as itself", over calls: it cites the contracts of the writer, the reader and the judge
 -- alone, so that it holds of whatever meets them.
 use mathlib.Core.Path.{_≡_}
 use mathlib.Core.Bool.{Bool, true, false}

@@ -1,6 +1,6 @@
 -- Sizes are accepted exactly within the paper's limits, and the sizing rule gives a block exactly within its own.
 use mathlib.Core.Path.{_≡_, refl}
-use mathlib.Core.Bool.{Bool, true, false, _&&_}
+use mathlib.Core.Bool.{Bool, true, false, and-true}
 use mathlib.Core.List.{List, [], _∷_}
 use Prim.Native.Nat.{ℕ, _+_, _-_, _*_, _/_, _≤_}
 use native.Mathlib.Omega.{arith}
@@ -48,11 +48,7 @@ pub accepts-span : (q b k : ℕ) → 1 ≤ q → q ≤ 64 → 1 ≤ b → b ≤ 
     → accepts paperLimits (sizes q b k) ≡ leb (q * (b - 1)) 2016
 accepts-span q b k ql qh bl bh kl kh =
     rw (between-holds 1 q 64 ql qh, between-holds 1 b 128 bl bh, between-holds 1 k 255 kl kh)
-    (last (leb (q * (b - 1)) 2016))
-  where
-    last : (t : Bool) → (t && true) ≡ t
-    last true = refl
-    last false = refl
+    (and-true (leb (q * (b - 1)) 2016))
 
 -- The limits of the sizing rule.
 pub record Sizable (rate grade : ℕ) : Type 0 where
@@ -61,14 +57,13 @@ pub record Sizable (rate grade : ℕ) : Type 0 where
   pub grade-high : grade ≤ 15
   pub block-high : blockFor rate grade ≤ 128
 
-sizingRules : ℕ → ℕ → List Bool
+abbrev sizingRules : ℕ → ℕ → List Bool
 sizingRules rate grade = between 1 rate 100 ∷ leb grade 15 ∷ leb (blockFor rate grade) 128 ∷ []
 
 abbrev sizable : ℕ → ℕ → Bool
-sizable rate grade = allTrue (between 1 rate 100 ∷ leb grade 15 ∷ leb (blockFor rate grade) 128 ∷ [])
+sizable rate grade = allTrue (sizingRules rate grade)
 
 sizable-facts : (rate grade : ℕ) → sizable rate grade ≡ true → Sizable rate grade
-unfolding sizingRules
 sizable-facts rate grade e = record {
   rate-low = between-facts 1 rate 100 (all-true-at (sizingRules rate grade) 0 e) .0;
   rate-high = between-facts 1 rate 100 (all-true-at (sizingRules rate grade) 0 e) .1;

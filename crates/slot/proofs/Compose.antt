@@ -1,31 +1,48 @@
--- The steps in code compose to the model's accepted slot: each step's array is the model's list after that step, so
--- that what the next step asks of it is what the model's rules say of that list.
-use mathlib.Core.Path.{_≡_, ap, sym, _∙_}
-use mathlib.Core.Bool.{Bool}
+-- The steps in code compose to the model's accepted slot. Each step's array is the model's list after that step, so
+-- that what the next step asks of it is there: the refusals that were judged on the state as handed in rule out every
+-- case in which a step would have nothing to take or no room.
+use mathlib.Core.Path.{_≡_, ap, sym, _∙_, subst}
+use mathlib.Core.Bool.{Bool, true, false}
 use mathlib.Core.List.{List, [], _∷_, _++_}
-use mathlib.Core.Option.{Option}
-use Prim.Native.Nat.{ℕ, _+_, _-_, max}
-use lib.ListN.{length, drop, getD}
+use mathlib.Core.Option.{Option, some}
+use Prim.Native.Nat.{ℕ, _+_, _-_, _<_, _≤_, max}
+use native.Mathlib.Omega.{arith}
+use lib.ListN.{length, drop, getD, length-append}
+use borrow.Author.Tests.{eqb-false, ltb-false}
 use Rattle.model.specs.Words.{choose}
-use Rattle.model.specs.Sizes.{paper, lookahead}
-use Rattle.model.specs.State.{Byte, Cell, Ring, State}
-use Rattle.model.specs.Slot.{Call, oldestCell, headWithout, deliveryOf, delivery}
-use Rattle.model.specs.Slot.{moves, tailWritten, ringsWritten, storeWritten, queueToRead, headRead}
+use Rattle.model.specs.Sizes.{paperLimits, paper, accepts, lookahead, headSize}
+use Rattle.model.specs.State.{Byte, Cell, owed, Ring, ring, State, countOf, headBytes, tailBytes, blocks, ringOf}
+use Rattle.model.specs.Slot.{Call, oldestCell, headWithout, deliveryOf, delivery, arriving, leavesUncovered}
+use Rattle.model.specs.Slot.{moves, tailWritten, ringsWritten, storeWritten, queueToRead, headRead, headFull}
 use Rattle.model.specs.Slot.{ringsRead, joined, asked, wrote, wroteStore, refilled, accept}
+use Rattle.model.proofs.Rings.{fewer-blocks}
+use Rattle.model.proofs.Rules.{Rules}
 use Rattle.model.proofs.Accepted.{Judged, Accepted, accepted-facts}
-use Rattle.caches.specs.Views.{bytesIn}
+use Rattle.model.proofs.Kept.{write-taken, read-taken, rules-3, rules-written, same-length}
+use Rattle.model.proofs.Invariant.{length-arriving}
+use Rattle.model.proofs.IdealSlot.{held-before}
+use Rattle.caches.specs.Views.{bytesIn, countsIn}
+use Rattle.caches.proofs.Entries.{bytes-length}
 use Rattle.lookahead.specs.Views.{cellOf, cellsIn}
 use Rattle.lookahead.specs.Says.{Shifted}
 use Rattle.parts.specs.declared.Small.{Small}
 use Rattle.parts.specs.Calls.{deliveryIn}
 use Rattle.parts.specs.Views.{Arrays, arrays, Long, sizesIn, ringsIn, stateIn}
+use Rattle.parts.proofs.Fits.{head-below-array, tail-in-array, head-in-array, tail-length}
+use Rattle.parts.proofs.Ranges.{InLimits, in-limits}
+use Rattle.parts.proofs.Rings.{ring-at}
 use Rattle.parts.proofs.States.{same-state}
 use Rattle.steps.specs.declared.Gave.{Gave}
 use Rattle.steps.specs.declared.Asked.{Asked}
 use Rattle.steps.specs.Says.{DeliverSays, ArriveSays, cellAsked, tailAsked, AskSays, moving, WriteSays, ReadSays}
-use Rattle.steps.proofs.Moving.{moving-tail, moving-rings, moving-store, moving-head, moving-read, asked-cell}
-use Rattle.steps.proofs.Moving.{asked-tail}
+use Rattle.steps.proofs.Moving.{oldest-cell, moving-tail, moving-rings, moving-store, moving-head, moving-read}
+use Rattle.steps.proofs.Moving.{asked-cell, asked-tail}
 use Rattle.slot.specs.Says.{Decided}
+
+-- A leaving Owed cell has a head byte of its queue.
+pub uncovered-owed : (c : Cell) (y : State) (q : ℕ) → leavesUncovered c y ≡ false → c ≡ owed q → 1 ≤ headBytes y q
+uncovered-owed c y q f e =
+    omega (arith, eqb-false (headBytes y q) 0 (sym (ap (λ (z : Cell). leavesUncovered z y) e) ∙ f))
 
 module _ (small : Small) (m : Arrays) (store : List ℕ) (call : Call) (isOwed′ : Bool) (written readQueue : Option ℕ)
     (long : Long m) (d : Decided (stateIn small m) store call isOwed′ written readQueue) where
@@ -35,109 +52,230 @@ module _ (small : Small) (m : Arrays) (store : List ℕ) (call : Call) (isOwed�
   abbrev l : ℕ
   l = lookahead (sizesIn small)
 
-  pub accepted : Accepted paper x store call
+  accepted : Accepted paper x store call
   accepted = accepted-facts paper x store call (d .accepted)
 
   pub judged : Judged paper x store call
   judged = accepted .judged
 
-  module _ (g : Gave) (head₁ : List ℕ) (tail₁ tail₂ cells₁ : List ℕ) (joined′ : ℕ) (a : Asked)
-      (oldest : oldestCell (x .cells) ≡ cellOf (getD (m .cells) 0 0))
+  pub sizes-ok : accepts paperLimits (sizesIn small) ≡ true
+  sizes-ok = judged .kept .sizes-ok
+
+  pub limits : InLimits small
+  limits = in-limits small sizes-ok
+
+  some-cell : 1 ≤ paper .cellCount (x .sizes)
+  some-cell = omega arith
+
+  pub cells-fit : l ≤ length (m .cells)
+  cells-fit = omega (arith, limits .span-high, long .cells-long)
+
+  oldest : oldestCell (x .cells) ≡ cellOf (getD (m .cells) 0 0)
+  oldest = oldest-cell l (m .cells) (omega arith) cells-fit
+
+  head-below : small .«head_fill» < 4034
+  head-below = head-in-array small m long sizes-ok (judged .kept .head-fits)
+
+  pub head-in : small .«head_fill» < length (m .head)
+  head-in = omega (arith, head-below, long .head-long)
+
+  tail-below : small .«tail_fill» < 2144
+  tail-below = tail-in-array small m long sizes-ok (judged .kept .tail-fits)
+
+  pub tail-in : small .«tail_fill» < length (m .tail)
+  tail-in = omega (arith, tail-below, long .tail-long)
+
+  -- 1. The leaving cell finds its byte.
+  pub byte-to-deliver : (q : ℕ) → cellOf (getD (m .cells) 0 0) ≡ owed q → 1 ≤ countOf q (x .head)
+  byte-to-deliver q e = uncovered-owed (oldestCell (x .cells)) x q (judged .covered) (oldest ∙ e)
+
+  module _ (g : Gave) (head₁ tail₁ : List ℕ) (joined′ : ℕ)
       (s1 : DeliverSays (small .«head_fill») (getD (m .cells) 0 0) (m .head) head₁ g)
-      (s2 : ArriveSays (small .«tail_fill») (call .arrival) (m .tail) tail₁ joined′)
-      (s3 : AskSays joined′ isOwed′ (call .request) tail₁ tail₂ a)
-      (s4 : Shifted l (a .cell) (m .cells) cells₁) where
-    pub head-1 : bytesIn (g .fill) head₁ ≡ asked x call .head
+      (s2 : ArriveSays (small .«tail_fill») (call .arrival) (m .tail) tail₁ joined′) where
+    head-1 : bytesIn (g .fill) head₁ ≡ asked x call .head
     head-1 = s1 .head-is ∙ ap (λ (c : Cell). headWithout c (x .head)) (sym oldest)
 
     pub delivered : deliveryIn (g .delivery) ≡ delivery x
     delivered = s1 .delivery-is ∙ ap (λ (c : Cell). deliveryOf c (x .head)) (sym oldest)
 
-    pub tail-2 : bytesIn (a .fill) tail₂ ≡ asked x call .tail
-    tail-2 =
-        s3 .tail-is
-        ∙ ap (tailAsked isOwed′ (call .request)) (s2 .tail-is)
-        ∙ asked-tail (joined x call) (call .request) isOwed′ (d .owed-is)
+    -- 2. The arriving byte has room.
+    pub joined-length : joined′ ≡ length (joined x call .tail)
+    joined-length =
+        omega (
+          arith,
+          s2 .fill-is,
+          tail-length small m long tail-below,
+          length-append (x .tail) (arriving (call .arrival)),
+        )
 
-    pub cells-1 : cellsIn l cells₁ ≡ asked x call .cells
-    cells-1 =
-        s4 .cells-are
-        ∙ ap (λ (c : Cell). drop 1 (x .cells) ++ c ∷ [])
-        (s3 .cell-is
-        ∙ ap (cellAsked isOwed′ (call .request)) (s2 .tail-is)
-        ∙ asked-cell (joined x call) (call .request) isOwed′ (d .owed-is))
+    pub joined-in : joined′ ≤ length tail₁
+    joined-in = omega (arith, s2 .fill-is, s2 .same-length, length-arriving (call .arrival), tail-in)
 
-    module _ (w : ℕ) (tail₃ counts₁ store₁ : List ℕ)
-        (s5 : WriteSays (sizesIn small) (a .fill) written (m .firsts) (m .counts) counts₁ tail₂ tail₃ store store₁ w)
-      where
-        pub tail-3 : bytesIn w tail₃ ≡ wrote x call .tail
-        tail-3 =
-            s5 .tail-is
-            ∙ ap (λ (t : List Byte). tailWritten written (moving (sizesIn small) t [] (x .rings))) tail-2
-            ∙ moving-tail written (asked x call)
-            ∙ ap (λ (o : Option ℕ). tailWritten o (asked x call)) (d .written-is)
+    -- 3. A request that is not Owed finds a tail byte.
+    pub byte-to-hold : (q : ℕ) → call .request ≡ some q → isOwed′ ≡ false → 1 ≤ countOf q (bytesIn joined′ tail₁)
+    byte-to-hold q s f =
+        subst (λ (t : List Byte). 1 ≤ countOf q t) (sym (s2 .tail-is))
+        (judged .byte-there q s (held-before paper x store call some-cell judged q (sym (d .owed-is q s) ∙ f)))
 
-        pub rings-1 : ringsIn (small .queues) (m .firsts) counts₁ ≡ wrote x call .rings
-        rings-1 =
-            s5 .rings-are
-            ∙ ap (λ (t : List Byte). ringsWritten written (moving (sizesIn small) t [] (x .rings))) tail-2
-            ∙ moving-rings written (asked x call)
-            ∙ ap (λ (o : Option ℕ). ringsWritten o (asked x call)) (d .written-is)
+    module _ (a : Asked) (tail₂ cells₁ : List ℕ)
+        (s3 : AskSays joined′ isOwed′ (call .request) tail₁ tail₂ a)
+        (s4 : Shifted l (a .cell) (m .cells) cells₁) where
+      tail-2 : bytesIn (a .fill) tail₂ ≡ asked x call .tail
+      tail-2 =
+          s3 .tail-is
+          ∙ ap (tailAsked isOwed′ (call .request)) (s2 .tail-is)
+          ∙ asked-tail (joined x call) (call .request) isOwed′ (d .owed-is)
 
-        pub store-1 : store₁ ≡ wroteStore x store call
-        store-1 =
-            s5 .store-is
-            ∙ ap (λ (t : List Byte). storeWritten written (moving (sizesIn small) t [] (x .rings)) store) tail-2
-            ∙ moving-store written (asked x call) store
-            ∙ ap (λ (o : Option ℕ). storeWritten o (asked x call) store) (d .written-is)
+      cells-1 : cellsIn l cells₁ ≡ asked x call .cells
+      cells-1 =
+          s4 .cells-are
+          ∙ ap (λ (c : Cell). drop 1 (x .cells) ++ c ∷ [])
+          (s3 .cell-is
+          ∙ ap (cellAsked isOwed′ (call .request)) (s2 .tail-is)
+          ∙ asked-cell (joined x call) (call .request) isOwed′ (d .owed-is))
 
-        module _ (h : ℕ) (head₂ firsts₁ counts₂ : List ℕ)
-            (s6 : ReadSays (sizesIn small) (g .fill) readQueue (m .firsts) counts₁ firsts₁ counts₂ head₁ head₂ store₁ h)
-          where
-            pub head-2 : bytesIn h head₂ ≡ refilled x store call .head
-            head-2 =
-                s6 .head-is
-                ∙ ap (λ (t : List Byte). headRead readQueue (moving (sizesIn small) [] t rings′) store₁) head-1
-                ∙ ap (λ (r : List Ring). headRead readQueue (moving (sizesIn small) [] (wrote x call .head) r)
-                store₁) rings-1
-                ∙ moving-head readQueue (wrote x call) store₁
-                ∙ ap (λ (o : Option ℕ). headRead o (wrote x call) store₁) (d .read-is)
-                ∙ ap (λ (t : List ℕ). headRead (queueToRead (wrote x call)) (wrote x call) t) store-1
-              where
-                rings′ : List Ring
-                rings′ = ringsIn (small .queues) (m .firsts) counts₁
+      pub asked-in : a .fill ≤ length tail₂
+      asked-in = omega (arith, s3 .fill-low, joined-in, s3 .same-length)
 
-            pub rings-2 : ringsIn (small .queues) firsts₁ counts₂ ≡ refilled x store call .rings
-            rings-2 =
-                s6 .rings-are
-                ∙ ap (λ (t : List Byte). ringsRead readQueue (moving (sizesIn small) [] t rings′)) head-1
-                ∙ ap (λ (r : List Ring). ringsRead readQueue (moving (sizesIn small) [] (wrote x call .head) r)) rings-1
-                ∙ moving-read readQueue (wrote x call)
-                ∙ ap (λ (o : Option ℕ). ringsRead o (wrote x call)) (d .read-is)
-              where
-                rings′ : List Ring
-                rings′ = ringsIn (small .queues) (m .firsts) counts₁
+      -- 4. The write finds a block of bytes, and a place in the ring.
+      pub block-to-write : (q : ℕ) → written ≡ some q
+          → (q < small .queues)
+          × (small .block ≤ countOf q (bytesIn (a .fill) tail₂))
+          × (countsIn (m .firsts) q < small .blocks)
+          × (countsIn (m .counts) q < small .blocks)
+      block-to-write q e = (
+        taken .0,
+        subst (λ (t : List Byte). small .block ≤ countOf q t) (sym tail-2) (taken .1),
+        subst (λ (r : Ring). r .first < small .blocks) at (rules .firsts q (taken .0)),
+        subst (λ (r : Ring). r .count < small .blocks) at
+            (fewer-blocks (tailBytes (asked x call) q) (small .block) (blocks (asked x call) q) (small .blocks)
+            (limits .b-low) (taken .1) (rules .room q (taken .0))),
+      )
+        where
+          rules : Rules l (asked x call)
+          rules = rules-3 paper x store call some-cell judged
 
-            -- All of the state, with the phase and the marks that code computes.
-            pub state-after : (p j t : ℕ)
-                → p ≡ choose (moves x) 0 (small .phase + 1)
-                → j ≡ max (small .«tail_mark») joined′
-                → t ≡ max (small .«head_mark») h
-                → joined′ ≡ length (joined x call .tail)
-                → h ≡ length (refilled x store call .head)
-                → stateIn
-                (record {
-                  queues = small .queues;
-                  block = small .block;
-                  blocks = small .blocks;
-                  phase = p;
-                  «tail_fill» = w;
-                  «head_fill» = h;
-                  «tail_mark» = j;
-                  «head_mark» = t;
-                })
-                (arrays tail₃ head₂ cells₁ firsts₁ counts₂)
-                ≡ accept x store call .state
-            state-after p j t ep ej et fj fh =
-                same-state (sizesIn small) ep tail-3 head-2 cells-1 rings-2 (ej ∙ ap (max (small .«tail_mark»)) fj)
-                (et ∙ ap (max (small .«head_mark»)) fh)
+          taken : (q < small .queues) × (small .block ≤ tailBytes (asked x call) q)
+          taken = write-taken (asked x call) q (sym (d .written-is) ∙ e)
+
+          at : ringOf (x .rings) q ≡ ring (countsIn (m .firsts) q) (countsIn (m .counts) q)
+          at = ring-at (small .queues) (m .firsts) (m .counts) q (taken .0)
+
+      module _ (w : ℕ) (tail₃ counts₁ store₁ : List ℕ)
+          (s5 : WriteSays (sizesIn small) (a .fill) written (m .firsts) (m .counts) counts₁ tail₂ tail₃ store store₁ w)
+        where
+          tail-3 : bytesIn w tail₃ ≡ wrote x call .tail
+          tail-3 =
+              s5 .tail-is
+              ∙ ap (λ (t : List Byte). tailWritten written (moving (sizesIn small) t [] (x .rings))) tail-2
+              ∙ moving-tail written (asked x call)
+              ∙ ap (λ (o : Option ℕ). tailWritten o (asked x call)) (d .written-is)
+
+          rings-1 : ringsIn (small .queues) (m .firsts) counts₁ ≡ wrote x call .rings
+          rings-1 =
+              s5 .rings-are
+              ∙ ap (λ (t : List Byte). ringsWritten written (moving (sizesIn small) t [] (x .rings))) tail-2
+              ∙ moving-rings written (asked x call)
+              ∙ ap (λ (o : Option ℕ). ringsWritten o (asked x call)) (d .written-is)
+
+          pub store-1 : store₁ ≡ wroteStore x store call
+          store-1 =
+              s5 .store-is
+              ∙ ap (λ (t : List Byte). storeWritten written (moving (sizesIn small) t [] (x .rings)) store) tail-2
+              ∙ moving-store written (asked x call) store
+              ∙ ap (λ (o : Option ℕ). storeWritten o (asked x call) store) (d .written-is)
+
+          pub same-store : length store₁ ≡ length store
+          same-store = ap length store-1 ∙ same-length paper x store call some-cell judged
+
+          pub head-still-in : g .fill ≤ length head₁
+          head-still-in = omega (arith, s1 .fill-low, s1 .same-length, head-in)
+
+          -- 4. The read finds a block, and room in the head.
+          pub block-to-read : (q : ℕ) → readQueue ≡ some q
+              → (q < small .queues)
+              × (g .fill + small .block ≤ length head₁)
+              × (countsIn (m .firsts) q < small .blocks)
+              × (1 ≤ countsIn counts₁ q)
+          block-to-read q e = (
+            taken .0,
+            omega (
+              arith,
+              room,
+              bytes-length (g .fill) head₁ head-still-in,
+              ap length head-1,
+              head-below-array (sizesIn small) sizes-ok,
+              s1 .same-length,
+              long .head-long,
+            ),
+            subst (λ (r : Ring). r .first < small .blocks) at (after .firsts q (taken .0)),
+            subst (λ (r : Ring). 1 ≤ r .count) at (taken .1),
+          )
+            where
+              after : Rules l (wrote x call)
+              after = rules-written paper x store call some-cell judged
+
+              read-now : queueToRead (wrote x call) ≡ some q
+              read-now = sym (d .read-is) ∙ e
+
+              taken : (q < small .queues) × (1 ≤ blocks (wrote x call) q)
+              taken = read-taken l (wrote x call) after q read-now
+
+              at : ringOf (wrote x call .rings) q ≡ ring (countsIn (m .firsts) q) (countsIn counts₁ q)
+              at = sym (ap (λ (r : List Ring). ringOf r q) rings-1)
+                  ∙ ring-at (small .queues) (m .firsts) counts₁ q (taken .0)
+
+              room : length (wrote x call .head) + small .block ≤ headSize (sizesIn small)
+              room = ltb-false (headSize (sizesIn small)) (length (wrote x call .head) + small .block)
+                  (sym (ap (headFull (wrote x call)) read-now)
+                  ∙ accepted .head-room)
+
+          module _ (h : ℕ) (head₂ firsts₁ counts₂ : List ℕ)
+              (s6 : ReadSays (sizesIn small) (g .fill) readQueue (m .firsts) counts₁ firsts₁ counts₂ head₁ head₂
+              store₁ h)
+            where
+              abbrev rings₁ : List Ring
+              rings₁ = ringsIn (small .queues) (m .firsts) counts₁
+
+              pub head-2 : bytesIn h head₂ ≡ refilled x store call .head
+              head-2 =
+                  s6 .head-is
+                  ∙ ap (λ (t : List Byte). headRead readQueue (moving (sizesIn small) [] t rings₁) store₁) head-1
+                  ∙ ap (λ (r : List Ring). headRead readQueue (moving (sizesIn small) [] (wrote x call .head) r)
+                  store₁) rings-1
+                  ∙ moving-head readQueue (wrote x call) store₁
+                  ∙ ap (λ (o : Option ℕ). headRead o (wrote x call) store₁) (d .read-is)
+                  ∙ ap (λ (t : List ℕ). headRead (queueToRead (wrote x call)) (wrote x call) t) store-1
+
+              rings-2 : ringsIn (small .queues) firsts₁ counts₂ ≡ refilled x store call .rings
+              rings-2 =
+                  s6 .rings-are
+                  ∙ ap (λ (t : List Byte). ringsRead readQueue (moving (sizesIn small) [] t rings₁)) head-1
+                  ∙ ap (λ (r : List Ring). ringsRead readQueue (moving (sizesIn small) [] (wrote x call .head) r))
+                  rings-1
+                  ∙ moving-read readQueue (wrote x call)
+                  ∙ ap (λ (o : Option ℕ). ringsRead o (wrote x call)) (d .read-is)
+
+              -- All of the state, with the phase and the marks that code computes.
+              pub state-after : (p j t : ℕ)
+                  → p ≡ choose (moves x) 0 (small .phase + 1)
+                  → j ≡ max (small .«tail_mark») joined′
+                  → t ≡ max (small .«head_mark») h
+                  → joined′ ≡ length (joined x call .tail)
+                  → h ≡ length (refilled x store call .head)
+                  → stateIn
+                  (record {
+                    queues = small .queues;
+                    block = small .block;
+                    blocks = small .blocks;
+                    phase = p;
+                    «tail_fill» = w;
+                    «head_fill» = h;
+                    «tail_mark» = j;
+                    «head_mark» = t;
+                  })
+                  (arrays tail₃ head₂ cells₁ firsts₁ counts₂)
+                  ≡ accept x store call .state
+              state-after p j t ep ej et fj fh =
+                  same-state (sizesIn small) ep tail-3 head-2 cells-1 rings-2 (ej ∙ ap (max (small .«tail_mark»)) fj)
+                  (et ∙ ap (max (small .«head_mark»)) fh)

@@ -10,7 +10,7 @@ use lib.ListN.{length, getD}
 use Rattle.model.specs.Words.{choose}
 use Rattle.model.specs.Sizes.{paper, lookahead}
 use Rattle.model.specs.State.{Byte, Cell, owed, State, countOf, owes, owedOf}
-use Rattle.model.specs.Slot.{Call, oldestCell, arriving, isOwed, joined, asked, wrote, queueToRead, refusal}
+use Rattle.model.specs.Slot.{Call, oldestCell, arriving, isOwed, joined, wrote, queueToRead, refusal}
 use Rattle.model.specs.Slot.{accept}
 use Rattle.model.proofs.Words.{eqb-same}
 use Rattle.model.proofs.Bytes.{count-append}
@@ -32,7 +32,7 @@ use Rattle.refusals.specs.Says.{PlanSays}
 use Rattle.refusals.proofs.PaperPlan.{plan-refusal, plan-owes, plan-read}
 use Rattle.steps.proofs.Moving.{oldest-cell}
 use Rattle.slot.specs.Says.{Decided, Ready}
-use Rattle.slot.proofs.Asks.{uncovered-owed}
+use Rattle.slot.proofs.Compose.{uncovered-owed}
 use Rattle.slot.proofs.Standing as standing
 
 module _ (small : Small) (m : Arrays) (tails heads owing store : List ℕ) (r : Ready small m tails heads owing store)
@@ -52,7 +52,7 @@ module _ (small : Small) (m : Arrays) (tails heads owing store : List ℕ) (r : 
       by-figures : PlanSays (figuresOf x) (x .phase) (length (x .head)) (x .cells) call plan
       by-figures =
           subst (λ (n : ℕ). PlanSays (figuresOf x) (x .phase) n (x .cells) call plan)
-          (sym (standing.head-length small m tails heads owing store r))
+          (sym (standing.head-long small m tails heads owing store r))
           (subst (λ (f : Figures). PlanSays f (x .phase) (small .«head_fill») (x .cells) call plan)
           (standing.figures-are small m tails heads owing store r) says)
 

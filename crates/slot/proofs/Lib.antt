@@ -1,5 +1,4 @@
--- How the steps of a slot compose to the model's, and what each step asks of those before it.
+-- How the steps of a slot compose to the model's, each finding what it asks; and the states that are ready for one.
 pub mod Compose
-pub mod Asks
 pub mod Standing
 pub mod Deciding

@@ -2,25 +2,24 @@
 -- slot leaves is ready again.
 use mathlib.Core.Path.{_≡_, refl, ap, sym, _∙_, subst, fun-ext}
 use mathlib.Core.Bool.{true}
-use mathlib.Core.List.{List, [], _∷_}
+use mathlib.Core.List.{List}
 use Prim.Native.Nat.{ℕ, zero, suc, _<_, _≤_}
 use native.Mathlib.Omega.{arith}
 use lib.Dec.{ltb}
 use lib.ListN.{length}
-use borrow.Author.Tests.{ltb-true, ltb-false, lt-ltb}
+use borrow.Author.Tests.{ltb-true, ltb-false}
 use Rattle.model.specs.Words.{allOf}
 use Rattle.model.specs.Sizes.{paperLimits, paper, accepts, lookahead, storeBytes}
-use Rattle.model.specs.State.{Byte, Cell, empty, held, owed, Ring, State, blocks, ringOf, byteBelow, cellBelow, keeps}
+use Rattle.model.specs.State.{Ring, State, blocks, ringOf, byteBelow, cellBelow, keeps}
 use Rattle.model.specs.Slot.{Call, refusal, Answer, accept, refuse, answer, slot}
-use Rattle.model.proofs.Words.{by-test, all-of-holds}
-use Rattle.model.proofs.Bytes.{Below}
-use Rattle.model.proofs.Cells.{CellBelow, CellsBelow, cell-below-holds}
+use Rattle.model.proofs.Words.{by-test}
+use Rattle.model.proofs.Bytes.{below-holds}
+use Rattle.model.proofs.Cells.{cells-below-holds}
 use Rattle.model.proofs.Rules.{Keeps, keeps-facts, keeps-holds}
 use Rattle.model.proofs.Accepted.{accepted-facts}
 use Rattle.model.proofs.Kept.{Kept, accept-kept}
 use Rattle.model.proofs.Calls.{answer-is}
 use Rattle.caches.specs.Views.{bytesIn, countsIn}
-use Rattle.caches.proofs.Entries.{bytes-length}
 use Rattle.caches.proofs.Tallies.{count-le}
 use Rattle.lookahead.specs.Views.{cellsIn}
 use Rattle.lookahead.proofs.Cells.{cells-length}
@@ -28,21 +27,11 @@ use Rattle.lookahead.proofs.Turns.{owed-at-most}
 use Rattle.parts.specs.declared.Small.{Small}
 use Rattle.parts.specs.Views.{Arrays, Long, sizesIn, ringsIn, stateIn}
 use Rattle.parts.specs.Figures.{Figures, figuresOf, blocksIn, figuresIn, Tallies}
-use Rattle.parts.proofs.Fits.{tail-below-array, head-below-array, fill-within}
+use Rattle.parts.proofs.Fits.{tail-in-array, head-in-array, tail-length, head-length}
 use Rattle.parts.proofs.Ranges.{InLimits, in-limits}
 use Rattle.parts.proofs.Rings.{ring-at, ring-past}
 use Rattle.slot.specs.declared.Carried.{Carried}
 use Rattle.slot.specs.Says.{CarrySays, Ready}
-
--- Cells below one bound are below a greater one.
-cells-below-more : (n k : ℕ) (cells : List Cell) → n ≤ k → CellsBelow n cells → CellsBelow k cells
-cells-below-more n k [] h v = tt
-cells-below-more n k (c ∷ cells) h v = (one c (v .0), cells-below-more n k cells h (v .1))
-  where
-    one : (c : Cell) → CellBelow n c → CellBelow k c
-    one empty w = tt
-    one (held q u) w = omega (arith, w)
-    one (owed q) w = omega (arith, w)
 
 -- The blocks of each queue, past the last queue too.
 blocks-are : (n : ℕ) (firsts counts : List ℕ) (q : ℕ)
@@ -57,17 +46,7 @@ figures small f t h o n = record { sizes = sizesIn small; fill = f; tails = t; h
 
 same-figures : (small : Small) {f f′ : ℕ} {t t′ h h′ o o′ n n′ : ℕ → ℕ}
     → f ≡ f′ → t ≡ t′ → h ≡ h′ → o ≡ o′ → n ≡ n′ → figures small f t h o n ≡ figures small f′ t′ h′ o′ n′
-same-figures small {f} {f′} {t} {t′} {h} {h′} {o} {o′} {n} {n′} ef et eh eo en =
-    ap (λ (z : ℕ). figures small z t h o n) ef
-    ∙ ap (λ (z : ℕ → ℕ). figures small f′ z h o n) et
-    ∙ ap (λ (z : ℕ → ℕ). figures small f′ t′ z o n) eh
-    ∙ ap (λ (z : ℕ → ℕ). figures small f′ t′ h′ z n) eo
-    ∙ ap (λ (z : ℕ → ℕ). figures small f′ t′ h′ o′ z) en
-
--- Bytes below one bound are below a greater one.
-bytes-below-more : (n k : ℕ) (xs : List Byte) → n ≤ k → Below n xs → allOf (byteBelow k) xs ≡ true
-bytes-below-more n k xs h v =
-    all-of-holds (byteBelow k) (λ (y : Byte). y .queue < n) (λ y l. lt-ltb (y .queue) k (omega (arith, l))) xs v
+same-figures small ef et eh eo en = cc
 
 -- What taking the counts asks of a state that keeps the rules.
 pub record Countable (small : Small) (m : Arrays) : Type 0 where
@@ -80,24 +59,12 @@ pub record Countable (small : Small) (m : Arrays) : Type 0 where
 
 pub countable : (small : Small) (m : Arrays) → Long m → keeps paper (stateIn small m) ≡ true → Countable small m
 countable small m long kept = record {
-  tail-in = omega (
-    arith,
-    long .tail-long,
-    fill-within (small .«tail_fill») (m .tail)
-        (omega (arith, v .tail-fits, tail-below-array (sizesIn small) (v .sizes-ok), long .tail-long)),
-  );
-  head-in = omega (
-    arith,
-    long .head-long,
-    fill-within (small .«head_fill») (m .head)
-        (omega (arith, v .head-fits, head-below-array (sizesIn small) (v .sizes-ok), long .head-long)),
-  );
+  tail-in = omega (arith, tail-in-array small m long (v .sizes-ok) (v .tail-fits));
+  head-in = omega (arith, head-in-array small m long (v .sizes-ok) (v .head-fits));
   sizes-ok = v .sizes-ok;
-  tail-known = bytes-below-more (small .queues) 64 (x .tail) few (v .within .tail-below);
-  head-known = bytes-below-more (small .queues) 64 (x .head) few (v .within .head-below);
-  cells-known =
-      all-of-holds (cellBelow 64) (CellBelow 64) (cell-below-holds 64) (x .cells)
-      (cells-below-more (small .queues) 64 (x .cells) few (v .within .cells-below));
+  tail-known = below-holds (small .queues) 64 few (x .tail) (v .within .tail-below);
+  head-known = below-holds (small .queues) 64 few (x .head) (v .within .head-below);
+  cells-known = cells-below-holds (small .queues) 64 few (x .cells) (v .within .cells-below);
 }
   where
     x : State
@@ -121,44 +88,37 @@ module _ (small : Small) (m : Arrays) (tails heads owing store : List ℕ) (r : 
     limits = in-limits small (kept .sizes-ok)
 
     pub head-in : small .«head_fill» < 4034
-    head-in =
-        subst (λ (n : ℕ). small .«head_fill» < n) (r .long .head-long)
-        (fill-within (small .«head_fill») (m .head)
-        (omega (arith, kept .head-fits, head-below-array (sizesIn small) (kept .sizes-ok), r .long .head-long)))
+    head-in = head-in-array small m (r .long) (kept .sizes-ok) (kept .head-fits)
 
-    pub tail-in : small .«tail_fill» < 2144
-    tail-in =
-        subst (λ (n : ℕ). small .«tail_fill» < n) (r .long .tail-long)
-        (fill-within (small .«tail_fill») (m .tail)
-        (omega (arith, kept .tail-fits, tail-below-array (sizesIn small) (kept .sizes-ok), r .long .tail-long)))
+    tail-in : small .«tail_fill» < 2144
+    tail-in = tail-in-array small m (r .long) (kept .sizes-ok) (kept .tail-fits)
 
-    pub head-length : length (x .head) ≡ small .«head_fill»
-    head-length = bytes-length (small .«head_fill») (m .head) (omega (arith, head-in, r .long .head-long))
+    pub head-long : length (x .head) ≡ small .«head_fill»
+    head-long = head-length small m (r .long) head-in
 
-    pub tail-length : length (x .tail) ≡ small .«tail_fill»
-    tail-length = bytes-length (small .«tail_fill») (m .tail) (omega (arith, tail-in, r .long .tail-long))
+    tail-long : length (x .tail) ≡ small .«tail_fill»
+    tail-long = tail-length small m (r .long) tail-in
 
     pub cells-in : lookahead (sizesIn small) ≤ 2017
-    cells-in = omega (arith, limits .span)
+    cells-in = omega (arith, limits .span-high)
 
     pub cells-known : allOf (cellBelow 64) (x .cells) ≡ true
     cells-known =
-        all-of-holds (cellBelow 64) (CellBelow 64) (cell-below-holds 64) (x .cells)
-        (cells-below-more (small .queues) 64 (x .cells) (limits .q-high) (kept .within .cells-below))
+        cells-below-holds (small .queues) 64 (limits .q-high) (x .cells) (kept .within .cells-below)
 
     -- The counts that are kept beside the state are its figures.
     pub figures-are : figuresIn small tails heads owing (m .counts) ≡ figuresOf x
     figures-are =
-        same-figures small (sym tail-length) (fun-ext (r .tallies .tails-are .count-is))
+        same-figures small (sym tail-long) (fun-ext (r .tallies .tails-are .count-is))
         (fun-ext (r .tallies .heads-are .count-is)) (fun-ext (r .tallies .owed-are .count-is))
         (fun-ext (blocks-are (small .queues) (m .firsts) (m .counts)))
 
     -- The counts are small.
     pub tails-small : (q : ℕ) → countsIn tails q ≤ 2144
-    tails-small q = omega (arith, r .tallies .tails-are .count-is q, count-le q (x .tail), tail-length, tail-in)
+    tails-small q = omega (arith, r .tallies .tails-are .count-is q, count-le q (x .tail), tail-long, tail-in)
 
     pub heads-small : (q : ℕ) → countsIn heads q ≤ 4034
-    heads-small q = omega (arith, r .tallies .heads-are .count-is q, count-le q (x .head), head-length, head-in)
+    heads-small q = omega (arith, r .tallies .heads-are .count-is q, count-le q (x .head), head-long, head-in)
 
     pub owing-small : (q : ℕ) → countsIn owing q ≤ 2017
     owing-small q =

@@ -1,10 +1,9 @@
 // One slot on lent arrays, in place: judged before anything moves, then counted, then carried out.
 ghost use mathlib.Core.Path.{_≡_};
-ghost use Prim.Native.Nat.{_+_, _-_, _<_, _≤_, max};
-ghost use lib.Dec.{eqb};
+ghost use Prim.Native.Nat.{_≤_};
 ghost use lib.ListN.{length};
 ghost use mathlib.Core.Bool.{true};
-ghost use Rattle.model.specs.Words.{choose, allOf};
+ghost use Rattle.model.specs.Words.{allOf};
 ghost use Rattle.model.specs.Sizes.{paperLimits, accepts, lookahead};
 ghost use Rattle.model.specs.State.{byteBelow, cellBelow};
 ghost use Rattle.caches.specs.Views.{bytesIn};
@@ -19,27 +18,6 @@ use parts::Arrival;
 use parts::Delivery;
 use parts::Request;
 use parts::Small;
-
-// The larger of two numbers.
-fn larger(a: usize, b: usize) -> usize
-    ensures { λ r. ⌜ r ≡ max a b ⌝ }
-{
-    if a < b {
-        return b;
-    }
-    a
-}
-
-// 5. "The phase rises by one, and after b - 1 comes 0."
-fn next_phase(small: Small) -> usize
-    requires { ⌜ (small .phase < small .block) × (small .block ≤ 128) ⌝ }
-    ensures { λ r. ⌜ r ≡ choose (eqb (small .phase) (small .block - 1)) 0 (small .phase + 1) ⌝ }
-{
-    if small.phase + 1 == small.block {
-        return 0;
-    }
-    small.phase + 1
-}
 
 // Where a slot that is carried out leaves the small numbers, and what it delivers.
 pub struct Carried {
@@ -84,9 +62,9 @@ pub fn carry(
     let tail_fill = steps::write(tail, firsts, counts, small, asked.fill, written, store);
     let head_fill = steps::read(head, firsts, counts, small, gave.fill, read, store);
     // 5. The phase. The marks rise with the fills.
-    let phase = next_phase(small);
-    let tail_mark = larger(small.tail_mark, joined);
-    let head_mark = larger(small.head_mark, head_fill);
+    let phase = steps::next_phase(small.phase, small.block);
+    let tail_mark = numbers::larger(small.tail_mark, joined);
+    let head_mark = numbers::larger(small.head_mark, head_fill);
     let delivery = gave.delivery;
     Carried {
         small: Small {

@@ -1,40 +1,68 @@
--- What a script printed lies within the output: its text stands at the start of it.
+-- A script's text stands at the start of an output that is long enough, and is all that was printed.
 use mathlib.Core.Path.{_≡_, ap, sym, _∙_}
-use mathlib.Core.Bool.{Bool}
+use mathlib.Core.Bool.{Bool, false}
 use mathlib.Core.List.{List, _++_}
-use mathlib.Core.Option.{Option, some, none}
+use mathlib.Core.Option.{some, none}
 use Prim.Native.Nat.{ℕ, _≤_}
 use native.Mathlib.Omega.{arith}
-use lib.ListN.{length, drop, length-append, length-take}
+use lib.ListN.{length, take, drop, replicate, length-append, length-take}
+use lib.Seq.{take-append-seam}
+use borrow.Author.Tests.{le-ltb}
 use Rattle.model.specs.Words.{choose}
-use Rattle.model.proofs.Words.{by-test}
+use Rattle.model.proofs.Words.{none-not-some, some-inj}
 use Rattle.io.specs.Counts.{Counts}
 use Rattle.lines.specs.Lines.{text}
-use Rattle.printout.specs.Run.{scriptLines}
+use Rattle.printout.specs.Run.{scriptLines, storeLent, programText, outputBound}
+use Rattle.printout.proofs.Program.{output-enough}
 use Rattle.runner.specs.declared.Ran.{Ran}
-use Rattle.runner.specs.declared.Ran.the-variants.{Printed}
+use Rattle.runner.specs.declared.Ran.the-variants.{Printed, TooShort}
 use Rattle.runner.specs.Says.{printedIn, short, ScriptSays}
 
 pub counts : (n : ℕ) (xs : List ℕ) → n ≤ length xs → Counts n xs
 counts n xs within = (within, omega (arith, length-take n xs))
 
-module _ (r : Ran) (n : ℕ) (script store output store′ output′ : List ℕ) (is : r ≡ Printed n)
-    (says : ScriptSays script store output r store′ output′) where
+module _ (script store output : List ℕ) (room : outputBound (length script) ≤ length output) (r : Ran)
+    (store′ output′ : List ℕ) (says : ScriptSays script store output r store′ output′) where
   abbrev printed : List ℕ
   printed = text (scriptLines script store)
 
-  pub printed-within : Counts n output′
-  printed-within =
-      by-test (short script output)
-      (λ t.
-      let none-printed : some n ≡ none =
-      sym (ap printedIn is) ∙ says .answer-is ∙ ap (λ (b : Bool). choose b none (some (length printed))) t in
-      let z : _≡_ {A = ℕ} 0 1 = cc in
-      absurd (omega arith))
-      (λ t.
-      let some-printed : some n ≡ some (length printed) =
-      sym (ap printedIn is) ∙ says .answer-is ∙ ap (λ (b : Bool). choose b none (some (length printed))) t in
-      let n-is : n ≡ length printed = cc in
-      let is-output : output′ ≡ printed ++ drop (length printed) output =
-      says .output-is ∙ ap (λ (b : Bool). choose b output (printed ++ drop (length printed) output)) t in
-      counts n output′ (omega (arith, n-is, ap length is-output, length-append printed (drop (length printed) output))))
+  enough : short script output ≡ false
+  enough = le-ltb (length output) (outputBound (length script)) room
+
+  all-printed : printedIn r ≡ some (length printed)
+  all-printed = says .answer-is ∙ ap (λ (b : Bool). choose b none (some (length printed))) enough
+
+  pub not-too-short : r ≡ TooShort → ⊥
+  not-too-short is = none-not-some (length printed) (sym (ap printedIn is) ∙ all-printed)
+
+  module _ (n : ℕ) (is : r ≡ Printed n) where
+    n-is : n ≡ length printed
+    n-is = some-inj n (length printed) (sym (ap printedIn is) ∙ all-printed)
+
+    output-is : output′ ≡ printed ++ drop (length printed) output
+    output-is = says .output-is ∙ ap (λ (b : Bool). choose b output (printed ++ drop (length printed) output)) enough
+
+    pub printed-within : Counts n output′
+    printed-within =
+        counts n output′ (omega (
+          arith,
+          n-is,
+          ap length output-is,
+          length-append printed (drop (length printed) output),
+        ))
+
+    pub printed-is : take n output′ ≡ printed
+    printed-is =
+        ap (λ (k : ℕ). take k output′) n-is
+        ∙ ap (take (length printed)) output-is
+        ∙ take-append-seam printed (drop (length printed) output)
+
+-- What is printed on the store that the program lends is the program's text.
+pub on-its-store : (script store bytes : List ℕ) → store ≡ replicate storeLent 0
+    → bytes ≡ text (scriptLines script store) → bytes ≡ programText script
+unfolding programText
+on-its-store script store bytes zeros is = is ∙ ap (λ (lent : List ℕ). text (scriptLines script lent)) zeros
+
+-- An output of 655,371 bytes or more has room for what any input prints.
+pub room-for-any : (n bytes lent : ℕ) → bytes ≡ lent → 655_371 ≤ bytes → outputBound n ≤ lent
+room-for-any n bytes lent e h = omega (arith, output-enough n, e, h)

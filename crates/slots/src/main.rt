@@ -1,14 +1,19 @@
 // The program: a script from standard input, run on a store of 65,536 bytes, and what it prints to standard output. It
 // decides nothing: `runner::run_script` has the text.
+ghost use mathlib.Core.Path.{_≡_};
+ghost use Prim.Native.Nat.{_≤_, _<_};
+ghost use lib.ListN.{length, take};
 ghost use Rattle.io.specs.Counts.{Counts};
+ghost use Rattle.printout.specs.Run.{mostBytes, programText, outputBound};
 use runner::Ran;
 
-// One byte more than a script may have: a longer input need not be read on.
+// One byte more than a script may have: a longer input need not be read on (`program-reads-enough`).
 const INPUT: usize = 65537;
 
+// "lends a store of 65,536" (`storeLent`)
 const STORE: usize = 65536;
 
-// What a script of any length can print (`outputBound`).
+// What a script of any length can print (`output-enough`).
 const OUTPUT: usize = 655371;
 
 // How many bytes were read, and whether a read failed.
@@ -17,8 +22,10 @@ struct Input {
     failed: bool,
 }
 
-// Reads until the buffer is full or the input ends.
+// Reads until the buffer is full or the input ends. A full buffer is over the length of a script, so that what follows
+// it changes nothing (`longer-input-prints-alike`).
 fn read_input(buffer: &mut [u8]) -> Input
+    requires { ⌜ mostBytes < length (now buffer) ⌝ }
     ensures { λ r. ⌜ Counts (r .length) (now (buffer .exit)) ⌝ }
 {
     let mut done: usize = 0;
@@ -42,15 +49,26 @@ fn read_input(buffer: &mut [u8]) -> Input
     }
 }
 
-// Runs a script: how many bytes of the output it printed. The output of `main` is as long as any script needs.
-fn run(script: &[u8], store: &mut [u8], output: &mut [u8]) -> usize
+// What the program prints for an input, at the start of the output, on a store of its own: how many bytes.
+fn print_script(script: &[u8], output: &mut [u8]) -> usize
+    requires { ⌜ outputBound (length (now script)) ≤ length (now output) ⌝ }
+    ensures { λ r. ⌜ take r (now (output .exit)) ≡ programText (now (script .entry)) ⌝ }
     ensures { λ r. ⌜ Counts r (now (output .exit)) ⌝ }
 {
-    let ran = runner::run_script(script, store, output);
+    let mut store = [0u8; STORE];
+    let ran = runner::run_script(script, &mut store, output);
     match ran {
         Ran::Printed(n) => n,
         Ran::TooShort => 0,
     }
+}
+
+// Writes an input's text. No contract can say what a call of C's writes: so it is said, and proved in `main`, of what
+// is handed over to be written. The input is there for that alone.
+fn write_text(input: &[u8], text: &[u8]) -> bool
+    requires { ⌜ now text ≡ programText (now input) ⌝ }
+{
+    io::write_all(libc::STDOUT_FILENO, text)
 }
 
 fn main() {
@@ -61,10 +79,9 @@ fn main() {
         return;
     }
     let length = input.length;
-    let mut store = [0u8; STORE];
     let mut output = [0u8; OUTPUT];
-    let printed = run(&script[..length], &mut store, &mut output);
-    if io::write_all(libc::STDOUT_FILENO, &output[..printed]) {
+    let printed = print_script(&script[..length], &mut output);
+    if write_text(&script[..length], &output[..printed]) {
         return;
     }
     os::fail(b"slots: standard output");

@@ -6,11 +6,12 @@ use mathlib.Core.List.{List}
 use Prim.Native.Nat.{ℕ, _+_, _-_, _*_, _<_}
 use native.Mathlib.Omega.{arith}
 use Rattle.caches.specs.Says.{TookOldest}
+use Rattle.lookahead.proofs.Cells.{cell-empty}
 use Rattle.parts.specs.declared.Request.{Request}
 use Rattle.parts.specs.declared.Request.the-variants.{Asks, NoRequest}
 use Rattle.parts.specs.Calls.{requestIn}
 use Rattle.steps.specs.Says.{AskSays}
-use Rattle.steps.proofs.Cells.{cell-empty, made-owed, made-held}
+use Rattle.steps.proofs.Cells.{made-owed, made-held}
 
 module _ (fill : ℕ) (owes : Bool) (request : Request) (before : List ℕ) where
   pub asks-none : request ≡ NoRequest

@@ -5,10 +5,9 @@ use mathlib.Core.List.{List}
 use Prim.Native.Nat.{ℕ, _-_, _/_, _%_, _≤_, _<_}
 use native.Mathlib.Omega.{arith}
 use Rattle.caches.specs.Says.{TookOldest}
-use Rattle.lookahead.proofs.Cells.{cell-owed}
+use Rattle.lookahead.proofs.Cells.{cell-empty, cell-held, cell-owed}
 use Rattle.parts.specs.declared.Delivery.the-variants.{Gives, NoDelivery}
 use Rattle.steps.specs.Says.{DeliverSays}
-use Rattle.steps.proofs.Cells.{cell-empty, cell-held}
 
 module _ (fill cell : ℕ) (before : List ℕ) where
   pub delivers-owed : (after : List ℕ) (v : ℕ) → 131072 ≤ cell → TookOldest fill (cell / 256 % 256) before after v

@@ -1,9 +1,11 @@
-// The steps of a slot, each on the one large array that it changes, which is lent to it.
+// The steps of a slot, each on the one large array that it changes, which is lent to it; the last on numbers alone.
 ghost use mathlib.Core.Path.{_≡_};
 ghost use mathlib.Core.Bool.{true, false};
 ghost use mathlib.Core.Option.{some};
-ghost use Prim.Native.Nat.{ℕ, _+_, _≤_, _<_};
+ghost use Prim.Native.Nat.{ℕ, _+_, _-_, _≤_, _<_};
+ghost use lib.Dec.{eqb};
 ghost use lib.ListN.{length};
+ghost use Rattle.model.specs.Words.{choose};
 ghost use Rattle.model.specs.Sizes.{paperLimits, accepts, storeBytes};
 ghost use Rattle.model.specs.State.{Byte, owed, countOf};
 ghost use Rattle.caches.specs.Views.{bytesIn, countsIn};
@@ -13,6 +15,8 @@ ghost use Rattle.parts.specs.Calls.{arrivalIn, requestIn};
 ghost use Rattle.parts.specs.Views.{sizesIn};
 ghost use Rattle.steps.specs.Says.{DeliverSays, ArriveSays, AskSays, WriteSays, ReadSays};
 use caches::Chosen;
+use lookahead::HELD;
+use lookahead::OWED;
 use parts::Arrival;
 use parts::Delivery;
 use parts::Request;
@@ -31,14 +35,14 @@ pub fn deliver(head: &mut [u16; 4034], fill: usize, cell: u32) -> Gave
     ensures { λ r. ⌜ DeliverSays fill cell (now (head .entry)) (now (head .exit)) r ⌝ }
 {
     let queue = (cell / 256 % 256) as u8;
-    if 131072 <= cell {
+    if OWED <= cell {
         let v = caches::take_oldest(head, fill, queue as u16);
         return Gave {
             fill: fill - 1,
             delivery: Delivery::Gives(queue, v),
         };
     }
-    if 65536 <= cell {
+    if HELD <= cell {
         return Gave {
             fill: fill,
             delivery: Delivery::Gives(queue, (cell % 256) as u8),
@@ -85,13 +89,13 @@ pub fn ask(tail: &mut [u16; 2144], fill: usize, owes: bool, request: Request) ->
             if owes {
                 return Asked {
                     fill: fill,
-                    cell: 131072 + (queue as u32) * 256,
+                    cell: OWED + (queue as u32) * 256,
                 };
             }
             let v = caches::take_oldest(tail, fill, queue as u16);
             Asked {
                 fill: fill - 1,
-                cell: 65536 + (queue as u32) * 256 + (v as u32),
+                cell: HELD + (queue as u32) * 256 + (v as u32),
             }
         }
     }
@@ -169,4 +173,15 @@ pub fn read(
             fill + b
         }
     }
+}
+
+// 5. "The phase rises by one, and after b - 1 comes 0."
+pub fn next_phase(phase: usize, block: usize) -> usize
+    requires { ⌜ phase < block ⌝ }
+    ensures { λ r. ⌜ r ≡ choose (eqb phase (block - 1)) 0 (phase + 1) ⌝ }
+{
+    if phase + 1 == block {
+        return 0;
+    }
+    phase + 1
 }

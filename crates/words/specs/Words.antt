@@ -9,7 +9,7 @@
 --   16     1 where a byte arrives      1 where one is delivered
 --   17-24  the queue asked             the queue written
 --   25     1 where one is asked        1 where one was written
---   26-33  not looked at               the queue read
+--   26-33  not looked at (26-31)       the queue read
 --   34                                 1 where one was read
 --   35-42                              the refusal's number, or 0
 --   43-                                not looked at

@@ -58,8 +58,8 @@ loop-holds c =
     .ensures) (c .before .before .before .if1 .left) in (
       refl,
       refl,
-      few .0,
-      few .1,
+      omega (arith, few),
+      omega (arith, few),
       ap (λ (z : code.State). keeps paper (stateOf z)) rest ∙ kept,
       omega (arith, ap (λ (z : code.State). storeBytes (stateOf z .sizes)) rest, need, c .before .before .if2 .left),
     )

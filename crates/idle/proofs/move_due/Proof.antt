@@ -9,21 +9,22 @@ use Rattle.caches.specs.Views.{countsIn}
 use Rattle.caches.specs.Says.{chosenIn}
 use Rattle.lookahead.specs.Views.{cellsIn}
 use Rattle.parts.specs.Views.{sizesIn}
+use Rattle.parts.proofs.Ranges.{in-limits}
 use Rattle.idle.proofs.Leading.{leading-fits}
-use Rattle.idle.proofs.Counting.{limited, due-to-write, due-to-read}
+use Rattle.idle.proofs.Counting.{due-to-write, due-to-read}
 use Rattle.idle.proofs.move_due.Statement.{statement}
 use Rattle.idle.proofs.move_due.Tie as tie
 
 cast-fullest-of : tie.Need-cast-fullest-of
 cast-fullest-of c =
     let start = c .before in
-    omega (arith, limited (sizesIn (start .args .small)) (start .pre .0))
+    omega (arith, in-limits (start .args .small) (start .pre .0))
 
 fullest-of-requires : tie.Need-fullest-of-requires
 fullest-of-requires c κs =
     let start = c .before in
-    let fits = limited (sizesIn (start .args .small)) (start .pre .0) in
-    (fits .queues-fit, start .pre .2, fits .some-block)
+    let fits = in-limits (start .args .small) (start .pre .0) in
+    (fits .q-high, start .pre .2, fits .b-low)
 
 some-queue-requires : tie.Need-some-queue-requires
 some-queue-requires c κs = search needs
@@ -39,24 +40,24 @@ returns c =
 sub-scan : tie.Need-sub-scan
 sub-scan c =
     let start = c .before .before .before .before .before .before in
-    limited (sizesIn (start .args .small)) (start .pre .0) .some-block
+    in-limits (start .args .small) (start .pre .0) .b-low
 
 mul-scan : tie.Need-mul-scan
 mul-scan c =
     let start = c .before .before .before .before .before .before .before in
-    omega (arith, limited (sizesIn (start .args .small)) (start .pre .0))
+    omega (arith, in-limits (start .args .small) (start .pre .0))
 
 add-scan : tie.Need-add-scan
 add-scan c =
     let start = c .before .before .before .before .before .before .before in
-    omega (arith, limited (sizesIn (start .args .small)) (start .pre .0))
+    omega (arith, in-limits (start .args .small) (start .pre .0))
 
 scan-requires : tie.Need-scan-requires
 scan-requires c κs =
     let start = c .before .before .before .before .before .before .before .before in
     let l = lookahead (sizesIn (start .args .small)) in
     let fits : l ≤ length (start .args .cells .now) =
-    omega (arith, limited (sizesIn (start .args .small)) (start .pre .0), start .pre .1) in
+    omega (arith, in-limits (start .args .small) (start .pre .0), start .pre .1) in
     (omega (arith, start .pre .5, leading-fits l (start .args .cells .now) fits), fits, start .pre .4)
 
 some-queue-requires-2 : tie.Need-some-queue-requires-2

@@ -2,8 +2,7 @@
 use native.Mathlib.Nat.{mod-lt, add-mod-mod}
 use native.Mathlib.Omega.{arith}
 use borrow.Author.Needs.{needs}
-use Rattle.parts.specs.Views.{sizesIn}
-use Rattle.idle.proofs.Counting.{limited}
+use Rattle.parts.proofs.Ranges.{in-limits}
 use Rattle.idle.proofs.phase_after.Statement.{statement}
 use Rattle.idle.proofs.phase_after.Tie as tie
 
@@ -16,7 +15,7 @@ add-result c =
     let pre = c .before .before .pre in
     omega (
       arith,
-      limited (sizesIn (a .small)) (pre .0),
+      in-limits (a .small) (pre .0),
       pre .1,
       mod-lt (a .m) {m = a .small .block} (omega (arith, pre .1)),
     )

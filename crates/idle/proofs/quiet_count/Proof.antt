@@ -2,7 +2,8 @@
 use native.Mathlib.Omega.{arith}
 use borrow.Author.Needs.{needs}
 use Rattle.parts.specs.Views.{sizesIn}
-use Rattle.idle.proofs.Counting.{limited, count-due, count-all, count-some}
+use Rattle.parts.proofs.Ranges.{in-limits}
+use Rattle.idle.proofs.Counting.{count-due, count-all, count-some}
 use Rattle.idle.proofs.quiet_count.Statement.{statement}
 use Rattle.idle.proofs.quiet_count.Tie as tie
 
@@ -31,12 +32,12 @@ sub-if2 c = search needs
 mul-if2 : tie.Need-mul-if2
 mul-if2 c =
     let start = c .before .before .before in
-    omega (arith, limited (sizesIn (start .args .small)) (start .pre .0))
+    omega (arith, in-limits (start .args .small) (start .pre .0))
 
 add-if2 : tie.Need-add-if2
 add-if2 c =
     let start = c .before .before .before in
-    omega (arith, limited (sizesIn (start .args .small)) (start .pre .0))
+    omega (arith, in-limits (start .args .small) (start .pre .0))
 
 returns-2 : tie.Need-returns-2
 returns-2 c =

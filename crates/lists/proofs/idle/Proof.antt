@@ -1,6 +1,6 @@
--- `idle` meets its contract: what is judged of every slot holds of each idle one, and where 3 and 2 are ruled out
--- they are
--- passed on in place.
+-- `idle` meets its contract: what is judged of every slot holds of an idle one, and where 3 and 2 are ruled out they
+-- are passed on in place.
+use mathlib.Core.Path.{refl}
 use borrow.Author.Needs.{needs}
 use Rattle.parts.specs.Views.{Arrays, arrays}
 use Rattle.checked.proofs.Clearing.{cleared}
@@ -16,11 +16,15 @@ memory s =
 judge-requires : tie.Need-judge-requires
 judge-requires c κs = c .before .before .before .before .before .before .pre
 
+smaller-requires : tie.Need-smaller-requires
+smaller-requires c κs = search needs
+
 returns : tie.Need-returns
 returns c =
-    let judged = c .before in
+    let test = c .before in
+    let judged = test .before in
     let a = judged .before .before .before .before .before .before .before .args in
-    not-idled _ (a .store .now) (a .n) _ (judged .judge .ensures) (c .if1 .taken)
+    not-idled _ (a .store .now) (a .n) _ (judged .judge .ensures) (test .if1 .taken) (c .smaller .ensures) refl
 
 idle-kept-requires : tie.Need-idle-kept-requires
 idle-kept-requires c κs =
@@ -36,4 +40,4 @@ returns-2 : tie.Need-returns-2
 returns-2 c = c .before .before .idle-kept .ensures
 
 pub idle-spec : {M : Type 1} → statement M
-idle-spec = tie.close (tie.spec judge-requires returns idle-kept-requires same-length returns-2)
+idle-spec = tie.close (tie.spec judge-requires smaller-requires returns idle-kept-requires same-length returns-2)

@@ -15,8 +15,8 @@ take-counts-requires : tie.Need-take-counts-requires
 take-counts-requires c κs =
     let s = c .before .before .before .before in can-count (s .args .small) (memory s) (s .args .store .now) (s .pre)
 
-idle-slots-requires : tie.Need-idle-slots-requires
-idle-slots-requires c κs =
+rest-requires : tie.Need-rest-requires
+rest-requires c κs =
     let taken = c .before .before .before .before .before .before .before .before .before .before .before .before in
     let s = taken .before .before .before .before .before in
     counted (s .args .small) (memory s) (s .args .store .now) (s .pre) _ _ _ (taken .take-counts .ensures)
@@ -26,8 +26,8 @@ same-length c = search needs
 
 returns : tie.Need-returns
 returns c =
-    let v = c .before .before .idle-slots .ensures in
-    record { state-is = v .state-is; store-is = v .store-is; kept = λ e. v .ready .kept }
+    let v = c .before .before .rest .ensures in
+    record { stretch = v .stretch; state-is = v .state-is; store-is = v .store-is; kept = λ e. v .ready .kept }
 
 pub idle-kept-spec : {M : Type 1} → statement M
-idle-kept-spec = tie.close (tie.spec take-counts-requires idle-slots-requires same-length returns)
+idle-kept-spec = tie.close (tie.spec take-counts-requires rest-requires same-length returns)

@@ -5,7 +5,8 @@ use native.Mathlib.Omega.{arith}
 use borrow.Author.Needs.{needs}
 use Rattle.model.specs.State.{owedOf}
 use Rattle.lookahead.specs.Views.{cellsIn}
-use Rattle.margins.proofs.Counting.{none-owed, owed-more, owed-small}
+use Rattle.lookahead.proofs.Cells.{owed-more}
+use Rattle.margins.proofs.Counting.{none-owed, owed-small}
 use Rattle.margins.proofs.count_owed.Statement.{statement}
 use Rattle.margins.proofs.count_owed.Tie as tie
 

@@ -32,7 +32,7 @@ returns c =
     let s = c .before .before .before .before .before .before in
     let says = c .before .pass-quiet .ensures in
     rest-quiet (stateIn (s .args .small) (memory s)) _ (s .args .n) _ _ _ _ _ (c .if1 .taken) refl refl
-    (quiet-passed (s .args .small) (memory s) _ _ _ _ (s .pre) (s .args .n) _ _ says)
+    (quiet-passed (s .args .small) (memory s) _ _ _ _ (s .pre) (s .args .n) _ _ says .slots-pass)
     (quiet-ready (s .args .small) (memory s) _ _ _ _ (s .pre) (s .args .n) _ _ says)
 
 add-passed : tie.Need-add-passed
@@ -69,7 +69,7 @@ returns-2 c =
       more .if1 .left,
     ))
     refl refl refl
-    (quiet-passed (s .args .small) (memory s) _ _ _ _ (s .pre) (s .args .n) _ _ says)
+    (quiet-passed (s .args .small) (memory s) _ _ _ _ (s .pre) (s .args .n) _ _ says .slots-pass)
     (advanced .advance .ensures .0)
 
 pub rest-spec : {M : Type 1} → statement M

@@ -3,10 +3,10 @@
 use mathlib.Core.Path.{refl}
 use Prim.Native.Nat.{_≤_}
 use native.Mathlib.Omega.{arith}
-use Rattle.model.specs.Demand.{idles}
+use Rattle.model.specs.Calls.{idles}
 use Rattle.parts.specs.Views.{arrays, stateIn}
 use Rattle.printer.proofs.Going.{Going, going-starts, going-on, going-ends}
-use Rattle.printer.proofs.Answers.{idles-parts, no-idles, before-fits, stretch-answer-fits, stretch-runs}
+use Rattle.printer.proofs.Answers.{idles-left, no-idles, before-fits, stretch-answer-fits, stretch-runs}
 use Rattle.printer.proofs.run_idles.Statement.{statement}
 use Rattle.printer.proofs.run_idles.Tie as tie
 
@@ -39,7 +39,7 @@ sub-before-last c =
     let at-rest = c .before .before .before in
     let at-loop-test = at-rest .before .before .before .before .before .before .before .before .before .before
     .before in
-    omega (arith, at-rest .rest .ensures .passed-some (some-left at-loop-test))
+    omega (arith, at-rest .rest .ensures .stretch .passed-some (some-left at-loop-test))
 
 add-before-last : tie.Need-add-before-last Inv-loop μ-loop
 add-before-last c =
@@ -63,7 +63,8 @@ put-answer-requires c κs =
 
 sub-left : tie.Need-sub-left Inv-loop μ-loop
 sub-left c =
-    omega (arith, c .before .before .before .before .before .before .before .before .rest .ensures .passed-most)
+    let rested = c .before .before .before .before .before .before .before .before in
+    omega (arith, rested .rest .ensures .stretch .passed-most)
 
 loop-less : tie.Need-loop-less Inv-loop μ-loop
 loop-less c =
@@ -71,7 +72,7 @@ loop-less c =
     let at-loop-test = at-rest .before .before .before .before .before .before .before .before .before .before
     .before in
     let says = at-rest .rest .ensures in
-    omega (arith, says .passed-most, says .passed-some (some-left at-loop-test))
+    omega (arith, says .stretch .passed-most, says .stretch .passed-some (some-left at-loop-test))
 
 loop-again : tie.Need-loop-again Inv-loop μ-loop
 loop-again c =
@@ -83,7 +84,7 @@ loop-again c =
     .before in
     let at-loop = at-loop-test .before in
     let says = at-rest .rest .ensures in
-    let parts = idles-parts (at-loop .loop .left) (at-rest .rest .result .passed) (says .passed-most) in
+    let parts = idles-left (at-loop .loop .left) (at-rest .rest .result .passed) (says .stretch .passed-most) in
     let ran = at-put-answer .put-answer .ensures in
     going-on (at-loop .loop .inv) _ _ parts _ _ _ _ _ _ _
     (stretch-runs _ _ _ _ _ _ _ _ _ _ _ _ says (some-left at-loop-test) _ _ _ ran refl refl refl)

@@ -21,22 +21,22 @@ sub-size c =
 mul-size : tie.Need-mul-size
 mul-size c =
     let start = c .before .before .before .before .before in
-    omega (arith, in-limits (start .args .small) (start .pre .0) .span)
+    omega (arith, in-limits (start .args .small) (start .pre .0) .span-high)
 
 mul-size-2 : tie.Need-mul-size-2
 mul-size-2 c =
     let start = c .before .before .before .before .before in
-    omega (arith, in-limits (start .args .small) (start .pre .0) .span)
+    omega (arith, in-limits (start .args .small) (start .pre .0) .span-high)
 
 add-size : tie.Need-add-size
 add-size c =
     let start = c .before .before .before .before .before in
-    omega (arith, in-limits (start .args .small) (start .pre .0) .span)
+    omega (arith, in-limits (start .args .small) (start .pre .0) .span-high)
 
 add-result : tie.Need-add-result
 add-result c =
     let start = c .before .before .before .before .before .before in
-    omega (arith, in-limits (start .args .small) (start .pre .0) .span)
+    omega (arith, in-limits (start .args .small) (start .pre .0) .span-high)
 
 add-result-2 : tie.Need-add-result-2
 add-result-2 c =

@@ -32,7 +32,7 @@ abbrev callAt : tie.Start → Call
 callAt c = callIn (c .args .arrival) (c .args .request)
 
 cells-fit : (c : tie.Start) → lookahead (sizesIn (c .args .small)) ≤ length (c .args .cells .now)
-cells-fit c = omega (arith, in-limits (c .args .small) (c .pre .0) .span, c .pre .7)
+cells-fit c = omega (arith, in-limits (c .args .small) (c .pre .0) .span-high, c .pre .7)
 
 cell-is : (c : tie.Start) → oldestCell (cellsAt c) ≡ cellOf (getD (c .args .cells .now) 0 0)
 cell-is c = oldest-is (lookahead (sizesIn (c .args .small))) (c .args .cells .now) (omega arith) (cells-fit c)

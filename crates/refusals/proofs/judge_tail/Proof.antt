@@ -22,13 +22,13 @@ sub-if1 c =
 mul-if1 : tie.Need-mul-if1
 mul-if1 c =
     let start = c .before .before .before .before .before in
-    omega (arith, in-limits (start .args .small) (start .pre) .span)
+    omega (arith, in-limits (start .args .small) (start .pre) .span-high)
 
 add-if1 : tie.Need-add-if1
 add-if1 c =
     let start = c .before .before .before .before .before .before in
     let limits = in-limits (start .args .small) (start .pre) in
-    omega (arith, limits .span, limits .b-high)
+    omega (arith, limits .span-high, limits .b-high)
 
 returns : tie.Need-returns
 returns c =

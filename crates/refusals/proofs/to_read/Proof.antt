@@ -31,7 +31,7 @@ element-copy-out-spend c = search needs
 
 -- The cells of accepted sizes lie within the array.
 cells-fit : (c : tie.Start) → lookahead (sizesIn (c .args .small)) ≤ length (c .args .cells .now)
-cells-fit c = omega (arith, in-limits (c .args .small) (c .pre .0) .span, c .pre .3)
+cells-fit c = omega (arith, in-limits (c .args .small) (c .pre .0) .span-high, c .pre .3)
 
 spend-requires : tie.Need-spend-requires
 spend-requires c κs =
@@ -47,12 +47,12 @@ sub-scan c = search needs
 mul-scan : tie.Need-mul-scan
 mul-scan c =
     let start = c .before .before .before .before .before .before .before .before .before .before in
-    omega (arith, in-limits (start .args .small) (start .pre .0) .span)
+    omega (arith, in-limits (start .args .small) (start .pre .0) .span-high)
 
 add-scan : tie.Need-add-scan
 add-scan c =
     let start = c .before .before .before .before .before .before .before .before .before .before in
-    omega (arith, in-limits (start .args .small) (start .pre .0) .span)
+    omega (arith, in-limits (start .args .small) (start .pre .0) .span-high)
 
 scan-requires : tie.Need-scan-requires
 scan-requires c κs =

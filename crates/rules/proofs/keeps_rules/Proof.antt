@@ -80,10 +80,10 @@ sub-l : tie.Need-sub-l
 sub-l c = limits (c .before) .b-low
 
 mul-l : tie.Need-mul-l
-mul-l c = record { fits = omega (arith, limits (c .before .before) .span) }
+mul-l c = record { fits = omega (arith, limits (c .before .before) .span-high) }
 
 add-l : tie.Need-add-l
-add-l c = record { fits = omega (arith, limits (c .before .before) .span) }
+add-l c = record { fits = omega (arith, limits (c .before .before) .span-high) }
 
 all-below-requires : tie.Need-all-below-requires
 all-below-requires c κs =

@@ -7,9 +7,10 @@ use borrow.Author.Needs.{needs}
 use lib.ListN.{length, drop}
 use Rattle.commands.specs.Scripts.{refused, taken, readCommand}
 use Rattle.commands.specs.Values.{commandIn}
+use Rattle.commands.proofs.Judging.{moves-on}
 use Rattle.scripts.specs.Says.{readingIn}
 use Rattle.scripts.proofs.Parts.{rest-from}
-use Rattle.scripts.proofs.Turns.{JudgedTo, judge-starts, judge-refuses, moves-on, judge-goes-on, judge-ends}
+use Rattle.scripts.proofs.Turns.{JudgedTo, judge-starts, judge-refuses, judge-goes-on, judge-ends}
 use Rattle.scripts.proofs.Turns.{judge-follows}
 use Rattle.scripts.proofs.judge.Statement.{statement}
 use Rattle.scripts.proofs.judge.Tie as tie
@@ -69,7 +70,9 @@ taken-there c =
     ∙ ap (readCommand (loop .loop .first)) (rest-from (loop .loop .at) (loop .before .before .args .script .now))
 
 add-next : tie.Need-add-next Inv-loop μ-loop
-add-next c = omega (arith, moves-on (c .before .before .before .before .before .loop .inv) (taken-there c) .1)
+add-next c =
+    let turn = c .before .before .before .before .before in
+    omega (arith, moves-on _ (turn .before .before .args .script .now) (turn .loop .at) _ _ (sym (taken-there c)) .1)
 
 is-end-requires : tie.Need-is-end-requires Inv-loop μ-loop
 is-end-requires c κs = search needs
@@ -89,7 +92,8 @@ returns-3 c =
 loop-less : tie.Need-loop-less Inv-loop μ-loop
 loop-less c =
     let told = c .before .before in
-    let moved = moves-on (told .before .before .before .before .before .loop .inv) (taken-there told) in
+    let turn = told .before .before .before .before .before in
+    let moved = moves-on _ (turn .before .before .args .script .now) (turn .loop .at) _ _ (sym (taken-there told)) in
     omega (arith, moved .0, moved .1)
 
 loop-again : tie.Need-loop-again Inv-loop μ-loop

@@ -1,10 +1,9 @@
+-- `sizing::accepted` meets its contract: one limit that fails refuses the sizes, and where six hold the last decides.
 use mathlib.Core.Path.{sym}
 use native.Mathlib.Omega.{arith}
 use Rattle.sizing.proofs.Laws.{accepts-not, accepts-span, small-product}
 use Rattle.sizing.proofs.accepted.Statement.{statement}
 use Rattle.sizing.proofs.accepted.Tie as tie
-use Rattle.sizing.proofs.accepted.Reads as reads
-use Rattle.sizing.proofs.accepted.Lts as lts
 
 returns : tie.Need-returns
 returns c =

@@ -1,10 +1,10 @@
+-- `sizing::block_size` meets its contract: each early return breaks one limit of the rule, and within all of them the
+-- block is the rule's; cycle times are at most 80 ns, so that no product is too large.
 use native.Mathlib.Omega.{arith}
 use Rattle.sizing.proofs.Laws.{no-block, a-block, product-small, block-of}
 use borrow.Author.Needs.{needs}
 use Rattle.sizing.proofs.block_size.Statement.{statement}
 use Rattle.sizing.proofs.block_size.Tie as tie
-use Rattle.sizing.proofs.block_size.Reads as reads
-use Rattle.sizing.proofs.block_size.Lts as lts
 
 returns : tie.Need-returns
 returns c =

@@ -1,9 +1,8 @@
+-- `sizing::cycle_time` meets its contract: the array is the model's list.
 use mathlib.Core.Path.{refl}
 use borrow.Author.Needs.{needs}
 use Rattle.sizing.proofs.cycle_time.Statement.{statement}
 use Rattle.sizing.proofs.cycle_time.Tie as tie
-use Rattle.sizing.proofs.cycle_time.Reads as reads
-use Rattle.sizing.proofs.cycle_time.Lts as lts
 
 mul-result : tie.Need-mul-result
 mul-result c = search needs

@@ -1,64 +1,45 @@
+-- `sizing::memory_sizes` meets its contract: accepted sizes need the model's memories, and others get refusal 1.
 use mathlib.Core.Path.{sym, _∙_}
 use native.Mathlib.Omega.{arith}
 use native.Mathlib.Nat.{mul-le-mul}
-use Rattle.sizing.proofs.Laws.{accepts-fits, has-sizes, no-sizes}
+use Rattle.sizing.proofs.Laws.{Fits, accepts-fits, has-sizes, no-sizes}
 use borrow.Author.Needs.{needs}
 use Rattle.sizing.proofs.memory_sizes.Statement.{statement}
 use Rattle.sizing.proofs.memory_sizes.Tie as tie
-use Rattle.sizing.proofs.memory_sizes.Reads as reads
-use Rattle.sizing.proofs.memory_sizes.Lts as lts
-use Rattle.sizing.proofs.accepted.Reads as accepted-reads
 
 accepted-requires : tie.Need-accepted-requires
 accepted-requires c κs = search needs
 
-sub-span : tie.Need-sub-span
-sub-span c =
+-- Accepted sizes are within the limits, so that every number on the way fits.
+fits : (c : tie.Then1) → let a = c .before .before .args in Fits (a .queues) (a .block) (a .blocks)
+fits c =
     let a = c .before .before .args in
-    let f = accepts-fits (a .queues) (a .block) (a .blocks) (sym (c .before .accepted .ensures) ∙ c .if1 .taken) in
-    omega (arith, f)
+    accepts-fits (a .queues) (a .block) (a .blocks) (sym (c .before .accepted .ensures) ∙ c .if1 .taken)
+
+sub-span : tie.Need-sub-span
+sub-span c = omega (arith, fits c)
 
 mul-span : tie.Need-mul-span
-mul-span c =
-    let a = c .before .before .args in
-    let f = accepts-fits (a .queues) (a .block) (a .blocks) (sym (c .before .accepted .ensures) ∙ c .if1 .taken) in
-    record { fits = omega (arith, f) }
+mul-span c = record { fits = omega (arith, fits c) }
 
 add-t6 : tie.Need-add-t6
-add-t6 c =
-    let a = c .before .before .args in
-    let f = accepts-fits (a .queues) (a .block) (a .blocks) (sym (c .before .accepted .ensures) ∙ c .if1 .taken) in
-    record { fits = omega (arith, f) }
+add-t6 c = record { fits = omega (arith, fits c) }
 
 add-t7 : tie.Need-add-t7
-add-t7 c =
-    let a = c .before .before .args in
-    let f = accepts-fits (a .queues) (a .block) (a .blocks) (sym (c .before .accepted .ensures) ∙ c .if1 .taken) in
-    record { fits = omega (arith, f) }
+add-t7 c = record { fits = omega (arith, fits c) }
 
 mul-t8 : tie.Need-mul-t8
-mul-t8 c =
-    let a = c .before .before .args in
-    let f = accepts-fits (a .queues) (a .block) (a .blocks) (sym (c .before .accepted .ensures) ∙ c .if1 .taken) in
-    record { fits = omega (arith, f) }
+mul-t8 c = record { fits = omega (arith, fits c) }
 
 add-t9 : tie.Need-add-t9
-add-t9 c =
-    let a = c .before .before .args in
-    let f = accepts-fits (a .queues) (a .block) (a .blocks) (sym (c .before .accepted .ensures) ∙ c .if1 .taken) in
-    record { fits = omega (arith, f) }
+add-t9 c = record { fits = omega (arith, fits c) }
 
 mul-t10 : tie.Need-mul-t10
-mul-t10 c =
-    let a = c .before .before .args in
-    let f = accepts-fits (a .queues) (a .block) (a .blocks) (sym (c .before .accepted .ensures) ∙ c .if1 .taken) in
-    record { fits = omega (arith, f, mul-le-mul (f .q-high) (f .k-high)) }
+mul-t10 c = record { fits = omega (arith, fits c, mul-le-mul (fits c .q-high) (fits c .k-high)) }
 
 mul-t11 : tie.Need-mul-t11
 mul-t11 c =
-    let a = c .before .before .args in
-    let f = accepts-fits (a .queues) (a .block) (a .blocks) (sym (c .before .accepted .ensures) ∙ c .if1 .taken) in
-    record { fits = omega (arith, f, mul-le-mul (mul-le-mul (f .q-high) (f .k-high)) (f .b-high)) }
+    record { fits = omega (arith, fits c, mul-le-mul (mul-le-mul (fits c .q-high) (fits c .k-high)) (fits c .b-high)) }
 
 returns : tie.Need-returns
 returns c =

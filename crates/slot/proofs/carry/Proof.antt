@@ -1,5 +1,5 @@
--- `carry` meets its contract: each step finds what it asks (Asks), and what the steps leave is what the model's
--- accepted slot leaves (Compose).
+-- `carry` meets its contract: each step finds what it asks, and what the steps leave is what the model's accepted slot
+-- leaves.
 use mathlib.Core.Path.{ap, sym, _∙_}
 use native.Mathlib.Omega.{arith}
 use borrow.Author.Needs.{needs}
@@ -8,8 +8,7 @@ use Rattle.model.specs.Slot.{Call}
 use Rattle.caches.proofs.Entries.{bytes-length}
 use Rattle.parts.specs.Calls.{callIn}
 use Rattle.parts.specs.Views.{Arrays, arrays}
-use Rattle.slot.proofs.Compose.{delivered, store-1, head-2, state-after}
-use Rattle.slot.proofs.Asks as asks
+use Rattle.slot.proofs.Compose as steps
 use Rattle.slot.proofs.carry.Statement.{statement}
 use Rattle.slot.proofs.carry.Tie as tie
 
@@ -28,14 +27,14 @@ deliver-requires : tie.Need-deliver-requires
 deliver-requires c κs =
     let s = c .before .before .before in
     let d = s .pre .1 in (
-      omega (arith, asks.head-in (s .args .small) (memory s) _ _ _ _ _ (s .pre .0) d),
-      asks.byte-to-deliver (s .args .small) (memory s) _ _ _ _ _ (s .pre .0) d,
+      omega (arith, steps.head-in (s .args .small) (memory s) _ _ _ _ _ (s .pre .0) d),
+      steps.byte-to-deliver (s .args .small) (memory s) _ _ _ _ _ (s .pre .0) d,
     )
 
 arrive-requires : tie.Need-arrive-requires
 arrive-requires c κs =
     let s = c .before .before .before .before .before in
-    let inside = asks.tail-in (s .args .small) (memory s) _ _ _ _ _ (s .pre .0) (s .pre .1) in
+    let inside = steps.tail-in (s .args .small) (memory s) _ _ _ _ _ (s .pre .0) (s .pre .1) in
     (omega (arith, inside), λ y e. inside)
 
 ask-requires : tie.Need-ask-requires
@@ -43,29 +42,29 @@ ask-requires c κs =
     let s = c .before .before .before .before .before .before .before in
     let s1 = c .before .before .before .deliver .ensures in
     let s2 = c .before .arrive .ensures in (
-      asks.joined-in (s .args .small) (memory s) _ _ _ _ _ (s .pre .0) (s .pre .1) _ _ _ _ s1 s2,
-      asks.byte-to-hold (s .args .small) (memory s) _ _ _ _ _ (s .pre .0) (s .pre .1) _ _ _ _ s1 s2,
+      steps.joined-in (s .args .small) (memory s) _ _ _ _ _ (s .pre .0) (s .pre .1) _ _ _ _ s1 s2,
+      steps.byte-to-hold (s .args .small) (memory s) _ _ _ _ _ (s .pre .0) (s .pre .1) _ _ _ _ s1 s2,
     )
 
 sub-shift : tie.Need-sub-shift
 sub-shift c =
     let s = c .before .before .before .before .before .before .before .before .before .before in
-    asks.limits (s .args .small) (memory s) _ _ _ _ _ (s .pre .0) (s .pre .1) .b-low
+    steps.limits (s .args .small) (memory s) _ _ _ _ _ (s .pre .0) (s .pre .1) .b-low
 
 mul-shift : tie.Need-mul-shift
 mul-shift c =
     let s = c .before .before .before .before .before .before .before .before .before .before .before in
-    omega (arith, asks.limits (s .args .small) (memory s) _ _ _ _ _ (s .pre .0) (s .pre .1) .span)
+    omega (arith, steps.limits (s .args .small) (memory s) _ _ _ _ _ (s .pre .0) (s .pre .1) .span-high)
 
 add-shift : tie.Need-add-shift
 add-shift c =
     let s = c .before .before .before .before .before .before .before .before .before .before .before in
-    omega (arith, asks.limits (s .args .small) (memory s) _ _ _ _ _ (s .pre .0) (s .pre .1) .span)
+    omega (arith, steps.limits (s .args .small) (memory s) _ _ _ _ _ (s .pre .0) (s .pre .1) .span-high)
 
 shift-requires : tie.Need-shift-requires
 shift-requires c κs =
     let s = c .before .before .before .before .before .before .before .before .before .before .before in
-    (omega arith, asks.cells-fit (s .args .small) (memory s) _ _ _ _ _ (s .pre .0) (s .pre .1))
+    (omega arith, steps.cells-fit (s .args .small) (memory s) _ _ _ _ _ (s .pre .0) (s .pre .1))
 
 write-requires : tie.Need-write-requires
 write-requires c κs =
@@ -77,12 +76,12 @@ write-requires c κs =
     let s3 = c .before .before .before .before .before .before .before .before .ask .ensures in
     let s4 = c .before .before .before .before .shift .ensures in
     let d = s .pre .1 in (
-      asks.asked-in (s .args .small) (memory s) _ _ _ _ _ (s .pre .0) d _ _ _ _ s1 s2 _ _ _ s3 s4,
-      asks.sizes-ok (s .args .small) (memory s) _ _ _ _ _ (s .pre .0) d,
-      asks.judged′ (s .args .small) (memory s) _ _ _ _ _ (s .pre .0) d .store-long,
+      steps.asked-in (s .args .small) (memory s) _ _ _ _ _ (s .pre .0) d _ _ _ _ s1 s2 _ _ _ s3 s4,
+      steps.sizes-ok (s .args .small) (memory s) _ _ _ _ _ (s .pre .0) d,
+      steps.judged (s .args .small) (memory s) _ _ _ _ _ (s .pre .0) d .store-long,
       s .pre .0 .firsts-long,
       s .pre .0 .counts-long,
-      asks.block-to-write (s .args .small) (memory s) _ _ _ _ _ (s .pre .0) d _ _ _ _ s1 s2 _ _ _ s3 s4,
+      steps.block-to-write (s .args .small) (memory s) _ _ _ _ _ (s .pre .0) d _ _ _ _ s1 s2 _ _ _ s3 s4,
     )
 
 read-requires : tie.Need-read-requires
@@ -99,26 +98,23 @@ read-requires c κs =
     .ensures in
     let s5 = c .before .before .before .before .before .before .write .ensures in
     let d = s .pre .1 in (
-      asks.head-still-in (s .args .small) (memory s) _ _ _ _ _ (s .pre .0) d _ _ _ _ s1 s2 _ _ _ s3 s4 _ _ _ _ s5,
-      asks.sizes-ok (s .args .small) (memory s) _ _ _ _ _ (s .pre .0) d,
+      steps.head-still-in (s .args .small) (memory s) _ _ _ _ _ (s .pre .0) d _ _ _ _ s1 s2 _ _ _ s3 s4 _ _ _ _ s5,
+      steps.sizes-ok (s .args .small) (memory s) _ _ _ _ _ (s .pre .0) d,
       omega (
         arith,
-        asks.judged′ (s .args .small) (memory s) _ _ _ _ _ (s .pre .0) d .store-long,
-        asks.same-store (s .args .small) (memory s) _ _ _ _ _ (s .pre .0) d _ _ _ _ s1 s2 _ _ _ s3 s4 _ _ _ _ s5,
+        steps.judged (s .args .small) (memory s) _ _ _ _ _ (s .pre .0) d .store-long,
+        steps.same-store (s .args .small) (memory s) _ _ _ _ _ (s .pre .0) d _ _ _ _ s1 s2 _ _ _ s3 s4 _ _ _ _ s5,
       ),
       s .pre .0 .firsts-long,
       s5 .counts-long ∙ s .pre .0 .counts-long,
-      asks.block-to-read (s .args .small) (memory s) _ _ _ _ _ (s .pre .0) d _ _ _ _ s1 s2 _ _ _ s3 s4 _ _ _ _ s5,
+      steps.block-to-read (s .args .small) (memory s) _ _ _ _ _ (s .pre .0) d _ _ _ _ s1 s2 _ _ _ s3 s4 _ _ _ _ s5,
     )
 
 next-phase-requires : tie.Need-next-phase-requires
 next-phase-requires c κs =
     let s = c .before .before .before .before .before .before .before .before .before .before .before .before .before
     .before .before .before .before .before .before .before .before .before .before .before in
-    let d = s .pre .1 in (
-      asks.judged′ (s .args .small) (memory s) _ _ _ _ _ (s .pre .0) d .kept .phase-ok,
-      asks.limits (s .args .small) (memory s) _ _ _ _ _ (s .pre .0) d .b-high,
-    )
+    steps.judged (s .args .small) (memory s) _ _ _ _ _ (s .pre .0) (s .pre .1) .kept .phase-ok
 
 larger-requires : tie.Need-larger-requires
 larger-requires c κs = search needs
@@ -145,21 +141,18 @@ returns c =
     let s5 = c .before .before .before .before .before .before .before .before .before .before .write .ensures in
     let s6 = c .before .before .before .read .ensures in
     let d = s .pre .1 in
-    let first = asks.oldest (s .args .small) (memory s) _ _ _ _ _ (s .pre .0) d in
-    let head-is = head-2 (s .args .small) (memory s) _ _ _ _ _ (s .pre .0) d _ _ _ _ _ _ _ first s1 s2 s3 s4 _ _ _ _
-    s5 _ _
-    _ _ s6 in
+    let head-is = steps.head-2 (s .args .small) (memory s) _ _ _ _ _ (s .pre .0) d _ _ _ _ s1 s2 _ _ _ s3 s4 _ _ _ _
+    s5 _ _ _ _ s6 in
     record {
-      state-is = state-after (s .args .small) (memory s) _ _ _ _ _ (s .pre .0) d _ _ _ _ _ _ _ first s1 s2 s3 s4 _ _
-          _ _ s5
-          _ _ _ _ s6 _ _ _
+      state-is = steps.state-after (s .args .small) (memory s) _ _ _ _ _ (s .pre .0) d _ _ _ _ s1 s2 _ _ _ s3 s4 _ _
+          _ _ s5 _ _ _ _ s6 _ _ _
           (c .before .before .next-phase .ensures)
           (c .before .larger .ensures)
           (c .larger2 .ensures)
-          (asks.joined-length (s .args .small) (memory s) _ _ _ _ _ (s .pre .0) d _ _ _ _ s1 s2)
+          (steps.joined-length (s .args .small) (memory s) _ _ _ _ _ (s .pre .0) d _ _ _ _ s1 s2)
           (sym (bytes-length _ _ (s6 .fits)) ∙ ap length head-is);
-      delivery-is = delivered (s .args .small) (memory s) _ _ _ _ _ (s .pre .0) d _ _ _ _ _ _ _ first s1 s2 s3 s4;
-      store-is = store-1 (s .args .small) (memory s) _ _ _ _ _ (s .pre .0) d _ _ _ _ _ _ _ first s1 s2 s3 s4 _ _ _ _ s5;
+      delivery-is = steps.delivered (s .args .small) (memory s) _ _ _ _ _ (s .pre .0) d _ _ _ _ s1 s2;
+      store-is = steps.store-1 (s .args .small) (memory s) _ _ _ _ _ (s .pre .0) d _ _ _ _ s1 s2 _ _ _ s3 s4 _ _ _ _ s5;
       long = record {
         tail-long = s5 .same-length ∙ s3 .same-length ∙ s2 .same-length ∙ s .pre .0 .tail-long;
         head-long = s6 .same-length ∙ s1 .same-length ∙ s .pre .0 .head-long;

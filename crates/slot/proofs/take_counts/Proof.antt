@@ -19,20 +19,20 @@ mul-tally-owed : tie.Need-mul-tally-owed
 mul-tally-owed c = let s = c .before .before .before .before .before .before .before in omega (
   arith,
   in-limits (s
-      .args .small) (s .pre .5) .span,
+      .args .small) (s .pre .5) .span-high,
 )
 
 add-tally-owed : tie.Need-add-tally-owed
 add-tally-owed c = let s = c .before .before .before .before .before .before .before in omega (
   arith,
   in-limits (s
-      .args .small) (s .pre .5) .span,
+      .args .small) (s .pre .5) .span-high,
 )
 
 tally-owed-requires : tie.Need-tally-owed-requires
 tally-owed-requires c κs =
     let s = c .before .before .before .before .before .before .before in
-    let small = in-limits (s .args .small) (s .pre .5) .span in
+    let small = in-limits (s .args .small) (s .pre .5) .span-high in
     (omega (arith, small), omega (arith, small, s .pre .2), s .pre .8)
 
 returns : tie.Need-returns

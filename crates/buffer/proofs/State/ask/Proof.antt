@@ -18,13 +18,14 @@ sub-youngest : tie.Need-sub-youngest
 sub-youngest c = let start = c .before .before in limits (start .args .t1) (start .pre .fits) .b-low
 
 mul-youngest : tie.Need-mul-youngest
-mul-youngest c = let start = c .before .before in omega (arith, limits (start .args .t1) (start .pre .fits) .span)
+mul-youngest c = let start = c .before .before in omega (arith, limits (start .args .t1) (start .pre .fits) .span-high)
 
 mul-self : tie.Need-mul-self
-mul-self c = let start = c .before .before in omega (arith, limits (start .args .t1) (start .pre .fits) .span)
+mul-self c = let start = c .before .before in omega (arith, limits (start .args .t1) (start .pre .fits) .span-high)
 
 element-write-self : tie.Need-element-write-self
-element-write-self c = let start = c .before .before in omega (arith, limits (start .args .t1) (start .pre .fits) .span)
+element-write-self c =
+    let start = c .before .before in omega (arith, limits (start .args .t1) (start .pre .fits) .span-high)
 
 returns : tie.Need-returns
 returns c =

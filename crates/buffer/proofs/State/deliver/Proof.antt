@@ -20,10 +20,10 @@ sub-l : tie.Need-sub-l
 sub-l c = let start = c .before .before .before in limits (start .args .t1) (start .pre .fits) .b-low
 
 mul-l : tie.Need-mul-l
-mul-l c = let start = c .before .before .before in omega (arith, limits (start .args .t1) (start .pre .fits) .span)
+mul-l c = let start = c .before .before .before in omega (arith, limits (start .args .t1) (start .pre .fits) .span-high)
 
 add-l : tie.Need-add-l
-add-l c = let start = c .before .before .before in omega (arith, limits (start .args .t1) (start .pre .fits) .span)
+add-l c = let start = c .before .before .before in omega (arith, limits (start .args .t1) (start .pre .fits) .span-high)
 
 shift-in-empty-requires : tie.Need-shift-in-empty-requires
 shift-in-empty-requires c κs =

@@ -1,0 +1,2 @@
+-- What arrays hold after many slots, as the record that they make.
+pub mod Runs

@@ -1,16 +1,15 @@
 -- Demand 3 over calls: a call that meets the slot's contract keeps the slot's promise, so that a chain of calls is a
 -- chain of promises, of which the model has shown demand 3.
-use mathlib.Core.Path.{_≡_, refl, sym, subst}
-use mathlib.Core.Bool.{Bool, true, false, not}
+use mathlib.Core.Path.{_≡_, sym, _∙_, subst}
+use mathlib.Core.Bool.{true}
 use mathlib.Core.List.{List}
 use Prim.Native.Nat.{ℕ}
-use native.Mathlib.Omega.{arith}
-use Rattle.model.specs.Words.{when}
 use Rattle.model.specs.Sizes.{sizes, paperLimits, accepts, paper}
 use Rattle.model.specs.State.{State, fresh}
 use Rattle.model.specs.Slot.{Call}
 use Rattle.model.specs.Lists.{Chain, no-call, next-call, stepsOf}
 use Rattle.model.specs.Demand.{ListMeets}
+use Rattle.model.proofs.Rules.{made-accepted}
 use Rattle.model.proofs.Demand.{demand-3}
 use Rattle.buffer.specs.declared.State as code
 use Rattle.buffer.specs.Says.{stateOf}
@@ -23,11 +22,6 @@ chain : (s : code.State) (store : List ℕ) (asked : List Call) (gs : List Given
 chain s store asked gs calls.no-call = no-call
 chain s store asked gs (calls.next-call says rest) = next-call (says .promised) (chain _ _ _ _ rest)
 
--- A making that answers 0 was of accepted sizes.
-accepted-sizes : (t : Bool) (n : ℕ) → n ≡ when (not t) 1 → n ≡ 0 → t ≡ true
-accepted-sizes true n e z = refl
-accepted-sizes false n e z = absurd (omega (arith, e, z))
-
 pub calls-meet : CallsMeet
 calls-meet q b k made store asked gs m zero c =
     subst (λ (x : State). ListMeets (sizes q b k) store (stepsOf x store asked (answersOf gs))) (sym fresh-is)
@@ -35,7 +29,7 @@ calls-meet q b k made store asked gs m zero c =
     (subst (λ (x : State). Chain paper x store asked (answersOf gs)) fresh-is (chain (made .state) store asked gs c)))
   where
     ok : accepts paperLimits (sizes q b k) ≡ true
-    ok = accepted-sizes (accepts paperLimits (sizes q b k)) (made .number) (m .number-is) zero
+    ok = made-accepted paper (sizes q b k) (sym (m .number-is) ∙ zero)
 
     fresh-is : stateOf (made .state) ≡ fresh paper (sizes q b k)
     fresh-is = m .fresh-is ok

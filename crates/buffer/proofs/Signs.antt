@@ -13,11 +13,11 @@ use Rattle.model.proofs.Margin.{critical-is}
 use Rattle.buffer.specs.Moves.{MarginSays}
 
 -- At or above zero, and below.
-difference-up : (h o : ℕ) → o ≤ h → pos h -ℤ pos o ≡ pos (h - o)
+pub difference-up : (h o : ℕ) → o ≤ h → pos h -ℤ pos o ≡ pos (h - o)
 difference-up h zero l = ap pos (omega arith)
 difference-up h (suc o) l = rw (le-ltb h (suc o) l)
 
-difference-down : (h o : ℕ) → h < o → pos h -ℤ pos o ≡ negsuc (o - suc h)
+pub difference-down : (h o : ℕ) → h < o → pos h -ℤ pos o ≡ negsuc (o - suc h)
 difference-down h zero l = absurd (omega arith)
 difference-down h (suc o) l = rw (lt-ltb h (suc o) l)
 

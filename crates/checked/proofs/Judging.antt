@@ -3,16 +3,16 @@ use mathlib.Core.Path.{_≡_, refl}
 use mathlib.Core.Bool.{true, false}
 use mathlib.Core.List.{List}
 use Prim.Native.Nat.{ℕ, _*_, _<_, _≤_}
-use native.Mathlib.Nat.{mul-le-mul}
 use native.Mathlib.Omega.{arith}
 use lib.ListN.{length}
 use borrow.Author.Tests.{lt-ltb}
-use Rattle.model.specs.Sizes.{paper, storeBytes}
+use Rattle.model.specs.Sizes.{paperLimits, paper, storeBytes}
 use Rattle.model.specs.State.{State, keeps}
 use Rattle.model.specs.Slot.{Call, refuse, slot, refusal}
+use Rattle.model.proofs.Limits.{row-within, store-within}
 use Rattle.model.proofs.Rules.{keeps-facts}
 use Rattle.parts.specs.declared.Small.{Small}
-use Rattle.parts.specs.Views.{Arrays, stateIn}
+use Rattle.parts.specs.Views.{Arrays, sizesIn, stateIn}
 use Rattle.parts.proofs.Ranges.{InLimits, in-limits}
 use Rattle.checked.specs.Says.{JudgeSays}
 
@@ -43,10 +43,7 @@ module _ (x : State) (bytes : ℕ) where
 -- The bytes of store that a state needs are a small number where it keeps the rules.
 pub need-small : (small : Small) (m : Arrays) → keeps paper (stateIn small m) ≡ true
     → (small .queues * small .blocks ≤ 64 * 255) × (small .queues * small .blocks * small .block ≤ 64 * 255 * 128)
-need-small small m e = (row, mul-le-mul row (l .b-high))
+need-small small m e = (row-within paperLimits (sizesIn small) limits, store-within paperLimits (sizesIn small) limits)
   where
-    l : InLimits small
-    l = in-limits small (keeps-facts paper (stateIn small m) e .sizes-ok)
-
-    row : small .queues * small .blocks ≤ 64 * 255
-    row = mul-le-mul (l .q-high) (l .k-high)
+    limits : InLimits small
+    limits = in-limits small (keeps-facts paper (stateIn small m) e .sizes-ok)

@@ -2,11 +2,11 @@
 -- bytes exceed its Owed cells; and a block that is larger than the lookahead may count for less.
 use mathlib.Core.Path.{_≡_, ap, sym, _∙_}
 use mathlib.Core.List.{List}
-use Prim.Native.Nat.{ℕ, zero, suc, _+_, _-_, _*_, _≤_, _<_, _^_, min}
+use Prim.Native.Nat.{ℕ, suc, _+_, _-_, _*_, _≤_, _<_, _^_, min}
 use native.Mathlib.Nat.{mul-le-mul, min-eq-left, min-eq-right, mul-zero}
 use native.Mathlib.Omega.{arith}
 use lib.Dec.{ltb, leb}
-use lib.IntN.{ℤ, pos, negsuc, _+ℤ_, _-ℤ_}
+use lib.IntN.{ℤ, pos, _+ℤ_, _-ℤ_}
 use lib.Signed.{mag, ltZ}
 use lib.ListN.{length, getD}
 use borrow.Author.Tests.{ltb-true, ltb-false, lt-ltb, le-ltb, leb-true, leb-false}
@@ -25,15 +25,8 @@ use Rattle.parts.specs.Views.{Arrays, sizesIn, ringsIn, stateIn}
 use Rattle.parts.specs.Figures.{blocksIn}
 use Rattle.parts.proofs.Rings.{ring-at, ring-past}
 use Rattle.margins.proofs.Counting.{bytes-within, cells-within}
+use Rattle.buffer.proofs.Signs.{difference-up, difference-down}
 use Rattle.choices.proofs.Fullest.{counts-past}
-
-difference-up : (h o : ℕ) → o ≤ h → pos h -ℤ pos o ≡ pos (h - o)
-difference-up h zero l = ap pos (omega arith)
-difference-up h (suc o) l = rw (le-ltb h (suc o) l)
-
-difference-down : (h o : ℕ) → h < o → pos h -ℤ pos o ≡ negsuc (o - suc h)
-difference-down h zero l = absurd (omega arith)
-difference-down h (suc o) l = rw (lt-ltb h (suc o) l)
 
 -- Two tests that hold together.
 same-test : (a b c d : ℕ) → (a < b → c < d) → (b ≤ a → d ≤ c) → ltb a b ≡ ltb c d

@@ -1,17 +1,16 @@
 -- A state that was made keeps the rules, and needs Q × K × b bytes of store, a small number.
-use mathlib.Core.Path.{_≡_, refl, ap, _∙_}
+use mathlib.Core.Path.{_≡_, refl, ap, sym, _∙_}
 use mathlib.Core.Bool.{Bool, true, false, not}
 use mathlib.Core.List.{List, _++_, map}
 use Prim.Native.Nat.{ℕ, _*_, _≤_}
-use native.Mathlib.Nat.{mul-le-mul}
-use native.Mathlib.Omega.{arith}
 use lib.ListN.{drop}
 use Rattle.model.specs.Words.{when}
-use Rattle.model.specs.Sizes.{sizes, paperLimits, sizeRules, accepts, paper, storeBytes}
+use Rattle.model.specs.Sizes.{sizes, paperLimits, accepts, paper, storeBytes}
 use Rattle.model.specs.State.{State, fresh, keeps}
 use Rattle.model.specs.Lists.{run, lastStore}
-use Rattle.model.proofs.Words.{true-not-false, between-facts, all-true-at}
-use Rattle.model.proofs.Rules.{keeps-holds, keeps-fresh}
+use Rattle.model.proofs.Words.{true-not-false}
+use Rattle.model.proofs.Limits.{within-limits, row-within, store-within}
+use Rattle.model.proofs.Rules.{made-accepted, keeps-holds, keeps-fresh}
 use Rattle.runs.specs.Says.{wordOf}
 use Rattle.buffer.specs.declared.State as code
 use Rattle.buffer.specs.declared.Made.{Made}
@@ -22,11 +21,7 @@ use Rattle.drive.specs.Says.{DroveSays}
 
 module _ (q b k : ℕ) (m : Made) (says : MakeSays q b k m) (made : m .number ≡ 0) where
   pub sizes-ok : accepts paperLimits (sizes q b k) ≡ true
-  sizes-ok = go (accepts paperLimits (sizes q b k)) (m .number) (says .number-is) made
-    where
-      go : (t : Bool) (n : ℕ) → n ≡ when (not t) 1 → n ≡ 0 → t ≡ true
-      go true n e z = refl
-      go false n e z = absurd (omega (arith, e, z))
+  sizes-ok = made-accepted paper (sizes q b k) (sym (says .number-is) ∙ made)
 
   pub keeps-made : keeps paper (stateOf (m .state)) ≡ true
   keeps-made =
@@ -37,13 +32,10 @@ module _ (q b k : ℕ) (m : Made) (says : MakeSays q b k m) (made : m .number �
   need-made = ap (λ (x : State). storeBytes (x .sizes)) (says .fresh-is sizes-ok)
 
   pub row-small : q * k ≤ 64 * 255
-  row-small =
-      mul-le-mul (between-facts 1 q 64 (all-true-at (sizeRules paperLimits (sizes q b k)) 0 sizes-ok) .1)
-      (between-facts 1 k 255 (all-true-at (sizeRules paperLimits (sizes q b k)) 2 sizes-ok) .1)
+  row-small = row-within paperLimits (sizes q b k) (within-limits paperLimits (sizes q b k) sizes-ok)
 
   pub need-small : q * k * b ≤ 64 * 255 * 128
-  need-small = mul-le-mul row-small (between-facts 1 b 128 (all-true-at (sizeRules paperLimits (sizes q b k)) 1
-      sizes-ok) .1)
+  need-small = store-within paperLimits (sizes q b k) (within-limits paperLimits (sizes q b k) sizes-ok)
 
 -- A making that does not answer 0 was of sizes that are not accepted.
 pub sizes-refused : (q b k : ℕ) (m : Made) → MakeSays q b k m → (m .number ≡ 0 → ⊥)

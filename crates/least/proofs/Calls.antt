@@ -10,10 +10,10 @@ use borrow.Author.Tests.{ne-eqb, lt-ltb, lt-leb}
 use Rattle.model.specs.Sizes.{Sizes, Limits}
 use Rattle.model.specs.State.{State, tailBytes, headBytes, owedCells, blocks}
 use Rattle.model.specs.Slot.{Call, isOwed, asked}
-use Rattle.model.specs.Calls.{arrival, request}
+use Rattle.model.specs.Calls.{arrival, request, idle}
 use Rattle.model.proofs.Limits.{within-limits}
 use Rattle.least.proofs.Slots.{Ready, stateAfter, storeAfter, Allowed, not-8}
-use Rattle.least.proofs.Figures.{Figures, figures, Stands, idle, stands-arrived, stands-asked, stands-idle}
+use Rattle.least.proofs.Figures.{Figures, figures, Stands, stands-arrived, stands-asked, stands-idle}
 use Rattle.least.proofs.Moves.{Calm}
 use Rattle.least.proofs.Stages.{Stage, on, writes, reads, moves-nothing}
 

@@ -4,19 +4,19 @@ use mathlib.Core.Path.{_≡_}
 use mathlib.Core.Bool.{true, false}
 use mathlib.Core.List.{[], _∷_}
 use mathlib.Core.Option.{some, none}
-use Prim.Native.Nat.{ℕ, suc, _+_, _*_, _<_, _≤_}
+use Prim.Native.Nat.{ℕ, suc, _+_, _*_, _<_}
 use native.Mathlib.Omega.{arith}
 use lib.Dec.{eqb}
-use borrow.Author.Tests.{eqb-false, ltb-true, lt-ltb}
-use Rattle.model.specs.Words.{choose}
-use Rattle.model.specs.State.{byte, Cell, empty, held, owed, State, owes, tailBytes, headBytes, owedCells, blocks}
-use Rattle.model.specs.Slot.{Call, oldestCell, afterDelivery, afterArrival, isOwed, youngestCell, afterRequest}
+use borrow.Author.Tests.{ltb-true, lt-ltb}
+use Rattle.model.specs.State.{byte, empty, State, tailBytes, headBytes, owedCells, blocks}
+use Rattle.model.specs.Slot.{oldestCell, afterDelivery, afterArrival, isOwed, youngestCell, afterRequest}
 use Rattle.model.specs.Slot.{joined, asked, leavesUncovered}
-use Rattle.model.specs.Calls.{arrival, request}
-use Rattle.model.proofs.Words.{at-queue, eqb-same, positive}
+use Rattle.model.specs.Calls.{arrival, request, idle}
+use Rattle.model.proofs.Words.{eqb-same}
 use Rattle.model.proofs.Bytes.{count-append, count-one-same, count-one-other}
 use Rattle.model.proofs.Cells.{owed-append}
 use Rattle.model.proofs.Meaning.{owed-leaves-tail}
+use Rattle.model.proofs.MissingDrain.{covered-byte}
 use Rattle.model.proofs.Rules.{owed-oldest, count-head-without, youngest-owed}
 
 -- Of a queue: its tail bytes, its blocks, its margin when the round began, and the bytes asked for since.
@@ -40,18 +40,7 @@ pub record Stands (q : ℕ) (here : Figures) (there : ℕ → Figures) (x : Stat
   pub at-here : Shows here x q
   pub at-there : (p : ℕ) → p < x .sizes .Q → eqb q p ≡ false → Shows (there p) x p
 
-abbrev pub idle : Call
-idle = record { arrival = none; request = none }
-
 -- 1. The oldest cell leaves.
-covered-byte : (x : State) (cell : Cell) → leavesUncovered cell x ≡ false → (q : ℕ) → owes q cell ≤ headBytes x q
-covered-byte x empty e q = omega arith
-covered-byte x (held p v) e q = omega arith
-covered-byte x (owed p) e q =
-    at-queue (λ i. choose (eqb p i) 1 0 ≤ headBytes x i) p
-    (rw (eqb-same p) (positive (headBytes x p) (eqb-false (headBytes x p) 0 e)))
-    (λ i u. rw u (omega arith)) q
-
 module _ (x : State) (covered : leavesUncovered (oldestCell (x .cells)) x ≡ false) where
   shows-delivered : (f : Figures) (q : ℕ) → Shows f x q → Shows f (afterDelivery x) q
   shows-delivered f q v = record {
@@ -62,7 +51,7 @@ module _ (x : State) (covered : leavesUncovered (oldestCell (x .cells)) x ≡ fa
       v .margin-is,
       owed-oldest (x .cells) q,
       count-head-without (oldestCell (x .cells)) (x .head) q,
-      covered-byte x (oldestCell (x .cells)) covered q,
+      covered-byte x (oldestCell (x .cells)) q covered,
     );
   }
 
@@ -75,7 +64,7 @@ module _ (x : State) (covered : leavesUncovered (oldestCell (x .cells)) x ≡ fa
         ltb-true (owedCells x q) (headBytes x q + x .sizes .b * blocks x q) e,
         owed-oldest (x .cells) q,
         count-head-without (oldestCell (x .cells)) (x .head) q,
-        covered-byte x (oldestCell (x .cells)) covered q,
+        covered-byte x (oldestCell (x .cells)) q covered,
       ))
 
 -- 2. The arriving byte joins the tail, or none does.

@@ -10,10 +10,10 @@ use lib.ListN.{replicate}
 use Rattle.model.specs.Sizes.{Sizes, Limits}
 use Rattle.model.specs.State.{State}
 use Rattle.model.specs.Slot.{Call}
-use Rattle.model.specs.Calls.{arrival, request, idles}
+use Rattle.model.specs.Calls.{arrival, request, idle, idles}
 use Rattle.model.specs.Demand.{blockOfArrivals}
 use Rattle.least.proofs.Slots.{Ready, stateAfter, storeAfter, Allowed, not-8}
-use Rattle.least.proofs.Figures.{Figures, figures, idle}
+use Rattle.least.proofs.Figures.{Figures, figures}
 use Rattle.least.proofs.Moves.{Calm}
 use Rattle.least.proofs.Stages.{Stage}
 use Rattle.least.proofs.Calls.{idle-allowed, idle-on, idle-moves-nothing, idle-reads, owed-now, request-taken}

@@ -1,10 +1,11 @@
 -- Accepted sizes lie within their limits, each limit as a fact. It is the one place that takes the test apart.
 use mathlib.Core.Path.{_≡_}
 use mathlib.Core.Bool.{true}
-use Prim.Native.Nat.{ℕ, _≤_}
+use Prim.Native.Nat.{ℕ, _*_, _≤_}
+use native.Mathlib.Nat.{mul-le-mul}
 use lib.ListN.{getD}
 use borrow.Author.Tests.{leb-true}
-use Rattle.model.specs.Sizes.{Sizes, Limits, span, sizeRules, accepts}
+use Rattle.model.specs.Sizes.{Sizes, Limits, span, storeBytes, sizeRules, accepts}
 use Rattle.model.proofs.Words.{between-facts, all-true-at}
 
 pub record Within (limits : Limits) (s : Sizes) : Type 0 where
@@ -29,3 +30,11 @@ within-limits limits s e = record {
   where
     rule : (i : ℕ) → getD (sizeRules limits s) i true ≡ true
     rule i = all-true-at (sizeRules limits s) i e
+
+-- So the blocks of all queues are few, and so are the bytes of store that they need.
+module _ (limits : Limits) (s : Sizes) (w : Within limits s) where
+  pub row-within : s .Q * s .K ≤ limits .mostQueues * limits .mostRingBlocks
+  row-within = mul-le-mul (w .q-high) (w .k-high)
+
+  pub store-within : storeBytes s ≤ limits .mostQueues * limits .mostRingBlocks * limits .mostBlockBytes
+  store-within = mul-le-mul row-within (w .b-high)

@@ -138,7 +138,7 @@ module _ (gone : ℕ → ℕ) (i n : ℕ) (z : State) (store : List ℕ) (long :
       taken = read-taken n z rules
 
 -- A leaving cell that is covered takes a byte that is there.
-covered-byte : (x : State) (cell : Cell) (q : ℕ) → leavesUncovered cell x ≡ false → owes q cell ≤ headBytes x q
+pub covered-byte : (x : State) (cell : Cell) (q : ℕ) → leavesUncovered cell x ≡ false → owes q cell ≤ headBytes x q
 covered-byte x empty q e = omega arith
 covered-byte x (held p v) q e = omega arith
 covered-byte x (owed p) q e =

@@ -4,7 +4,6 @@ use mathlib.Core.Path.{_≡_, refl, ap, sym, _∙_, subst}
 use mathlib.Core.Bool.{Bool, true}
 use mathlib.Core.List.{List, [], _∷_, _++_}
 use Prim.Native.Nat.{ℕ, zero, suc, _+_, _*_, _≤_, _<_}
-use native.Mathlib.Nat.{mul-le-mul}
 use native.Mathlib.Omega.{arith}
 use lib.Dec.{ltb}
 use lib.ListN.{length, length-append}
@@ -14,11 +13,11 @@ use Rattle.model.specs.Sizes.{Sizes, sizes, paperLimits, accepts, paper, storeB
 use Rattle.model.specs.State.{State, fresh, makingNumber, keeps}
 use Rattle.model.specs.Slot.{Call}
 use Rattle.model.specs.Lists.{run, lastStore, accepted}
+use Rattle.model.proofs.Limits.{Within, within-limits, row-within, store-within}
 use Rattle.model.proofs.Rules.{made-accepted, keeps-fresh, keeps-holds}
 use Rattle.parts.specs.Views.{Arrays}
-use Rattle.parts.proofs.Ranges.{InLimits, in-limits}
 use Rattle.buffer.specs.declared.Made.{Made}
-use Rattle.buffer.specs.Says.{stateOf, freshState, MakeSays}
+use Rattle.buffer.specs.Says.{stateOf, MakeSays}
 use Rattle.commands.specs.Commands.{Command}
 use Rattle.commands.specs.Scripts.{Script}
 use Rattle.lines.specs.Lines.{Line, refusal, ending, fault, lineText, text}
@@ -202,14 +201,14 @@ module _ (q b k : ℕ) (made : Made) (says : MakeSays q b k made) (taken : made 
   accepted-sizes : accepts paperLimits (sizes q b k) ≡ true
   accepted-sizes = made-accepted paper (sizes q b k) not-refused
 
-  limits : InLimits (freshState q b k .small)
-  limits = in-limits (freshState q b k .small) accepted-sizes
+  limits : Within paperLimits (sizes q b k)
+  limits = within-limits paperLimits (sizes q b k) accepted-sizes
 
   pub row-small : q * k ≤ 64 * 255
-  row-small = mul-le-mul (limits .q-high) (limits .k-high)
+  row-small = row-within paperLimits (sizes q b k) limits
 
   pub need-small : q * k * b ≤ 64 * 255 * 128
-  need-small = mul-le-mul row-small (limits .b-high)
+  need-small = store-within paperLimits (sizes q b k) limits
 
   is-fresh : stateOf (made .state) ≡ fresh paper (sizes q b k)
   is-fresh = says .fresh-is accepted-sizes

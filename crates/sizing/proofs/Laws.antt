@@ -6,42 +6,18 @@ use Prim.Native.Nat.{ℕ, _+_, _-_, _*_, _/_, _≤_}
 use native.Mathlib.Omega.{arith}
 use native.Mathlib.Nat.{mul-le-mul}
 use lib.Dec.{leb}
-use lib.ListN.{getD}
 use borrow.Author.Tests.{leb-true, le-leb}
 use Rattle.model.specs.Words.{between, allTrue}
-use Rattle.model.specs.Sizes.{sizes, paperLimits, sizeRules, accepts, cycleTime, blockFor}
+use Rattle.model.specs.Sizes.{sizes, paperLimits, accepts, cycleTime, blockFor}
 use Rattle.model.proofs.Words.{by-test, between-facts, between-holds, and-both, all-true-at, all-below-facts}
+use Rattle.model.proofs.Limits.{Within, within-limits}
 use Rattle.sizing.specs.declared.Sizing.the-variants.{Block, NoBlock}
 use Rattle.sizing.specs.declared.Derived.the-variants.{Needs, NoSizes}
 use Rattle.sizing.specs.Says.{SizingSays, DerivedSays, memoryOf}
 
--- The limits of sizes.
-pub record Fits (q b k : ℕ) : Type 0 where
-  pub q-low : 1 ≤ q
-  pub q-high : q ≤ 64
-  pub b-low : 1 ≤ b
-  pub b-high : b ≤ 128
-  pub k-low : 1 ≤ k
-  pub k-high : k ≤ 255
-  pub span-high : q * (b - 1) ≤ 2016
-
-pub accepts-fits : (q b k : ℕ) → accepts paperLimits (sizes q b k) ≡ true → Fits q b k
-accepts-fits q b k e = record {
-  q-low = between-facts 1 q 64 (rule 0) .0;
-  q-high = between-facts 1 q 64 (rule 0) .1;
-  b-low = between-facts 1 b 128 (rule 1) .0;
-  b-high = between-facts 1 b 128 (rule 1) .1;
-  k-low = between-facts 1 k 255 (rule 2) .0;
-  k-high = between-facts 1 k 255 (rule 2) .1;
-  span-high = leb-true (q * (b - 1)) 2016 (rule 3);
-}
-  where
-    rule : (i : ℕ) → getD (sizeRules paperLimits (sizes q b k)) i true ≡ true
-    rule i = all-true-at (sizeRules paperLimits (sizes q b k)) i e
-
-pub accepts-not : (q b k : ℕ) → (Fits q b k → ⊥) → accepts paperLimits (sizes q b k) ≡ false
+pub accepts-not : (q b k : ℕ) → (Within paperLimits (sizes q b k) → ⊥) → accepts paperLimits (sizes q b k) ≡ false
 accepts-not q b k h =
-    by-test (accepts paperLimits (sizes q b k)) (λ t. absurd (h (accepts-fits q b k t))) (λ t. t)
+    by-test (accepts paperLimits (sizes q b k)) (λ t. absurd (h (within-limits paperLimits (sizes q b k) t))) (λ t. t)
 
 -- Within the first six limits the seventh decides.
 pub accepts-span : (q b k : ℕ) → 1 ≤ q → q ≤ 64 → 1 ≤ b → b ≤ 128 → 1 ≤ k → k ≤ 255

@@ -1,8 +1,9 @@
 -- `sizing::memory_sizes` meets its contract: accepted sizes need the model's memories, and others get refusal 1.
 use mathlib.Core.Path.{sym, _∙_}
 use native.Mathlib.Omega.{arith}
-use native.Mathlib.Nat.{mul-le-mul}
-use Rattle.sizing.proofs.Laws.{Fits, accepts-fits, has-sizes, no-sizes}
+use Rattle.model.specs.Sizes.{sizes, paperLimits}
+use Rattle.model.proofs.Limits.{Within, within-limits, row-within, store-within}
+use Rattle.sizing.proofs.Laws.{has-sizes, no-sizes}
 use borrow.Author.Needs.{needs}
 use Rattle.sizing.proofs.memory_sizes.Statement.{statement}
 use Rattle.sizing.proofs.memory_sizes.Tie as tie
@@ -11,10 +12,12 @@ accepted-requires : tie.Need-accepted-requires
 accepted-requires c κs = search needs
 
 -- Accepted sizes are within the limits, so that every number on the way fits.
-fits : (c : tie.Then1) → let a = c .before .before .args in Fits (a .queues) (a .block) (a .blocks)
+fits : (c : tie.Then1)
+    → let a = c .before .before .args in Within paperLimits (sizes (a .queues) (a .block) (a .blocks))
 fits c =
     let a = c .before .before .args in
-    accepts-fits (a .queues) (a .block) (a .blocks) (sym (c .before .accepted .ensures) ∙ c .if1 .taken)
+    within-limits paperLimits (sizes (a .queues) (a .block) (a .blocks))
+    (sym (c .before .accepted .ensures) ∙ c .if1 .taken)
 
 sub-span : tie.Need-sub-span
 sub-span c = omega (arith, fits c)
@@ -35,11 +38,10 @@ add-t9 : tie.Need-add-t9
 add-t9 c = record { fits = omega (arith, fits c) }
 
 mul-t10 : tie.Need-mul-t10
-mul-t10 c = record { fits = omega (arith, fits c, mul-le-mul (fits c .q-high) (fits c .k-high)) }
+mul-t10 c = record { fits = omega (arith, row-within paperLimits _ (fits c)) }
 
 mul-t11 : tie.Need-mul-t11
-mul-t11 c =
-    record { fits = omega (arith, fits c, mul-le-mul (mul-le-mul (fits c .q-high) (fits c .k-high)) (fits c .b-high)) }
+mul-t11 c = record { fits = omega (arith, store-within paperLimits _ (fits c)) }
 
 returns : tie.Need-returns
 returns c =

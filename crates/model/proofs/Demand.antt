@@ -1,6 +1,6 @@
 -- Demand 3. Every list from a fresh state meets it, with any store: its states keep the rules and the invariant, so
 -- that 8, 9 and 10 never come; its accepted slots are slots of the ideal buffer, so that the delay is fixed. With a
--- store that is too short no slot is accepted, and the same argument holds.
+-- store that is too short no slot is accepted, and the same argument holds. `demand-3` says it.
 use mathlib.Core.Path.{_≡_, refl, ap, _∙_, fun-ext, subst}
 use mathlib.Core.Bool.{Bool, true, false, not}
 use mathlib.Core.List.{List, [], _∷_, _++_, append-nil}
@@ -11,7 +11,7 @@ use lib.Dec.{ltb}
 use lib.ListN.{length, drop, take, replicate}
 use lib.Seq.{drop-nil}
 use borrow.Author.Tests.{le-leb, le-ltb}
-use Rattle.model.specs.Words.{tabulate, All, when}
+use Rattle.model.specs.Basics.{tabulate, All, when}
 use Rattle.model.specs.Sizes.{Sizes, Limits, accepts, span, lookahead, storeBytes, full}
 use Rattle.model.specs.State.{Byte, empty, State, fresh, owedOf, keeps}
 use Rattle.model.specs.Slot.{Call, oldestCell, wrote, queueToRead, arrivalUnknown, arrivalFull, requestUnknown}
@@ -20,43 +20,45 @@ use Rattle.model.specs.Lists.{Step, stepOf, Chain, no-call, next-call, s
 use Rattle.model.specs.Lists.{dueToAll}
 use Rattle.model.specs.Ideal.{Ideal, lineOf, standsFor}
 use Rattle.model.specs.Demand.{CachesHold, NoMiss, ListMeets, Demand-3}
-use Rattle.model.proofs.Words.{and-both, between-holds, not-first, when-excluded}
-use Rattle.model.proofs.Rings.{ring-fresh}
-use Rattle.model.proofs.Rules.{Keeps, keeps-holds}
-use Rattle.model.proofs.Kept.{length-joined, accept-kept}
-use Rattle.model.proofs.Calls.{Told, told-refused, told-accepted, promised-told, answersOf, run-steps}
-use Rattle.model.proofs.Calls.{run-chain}
-use Rattle.model.proofs.Good.{Good, told-good, good-fresh}
-use Rattle.model.proofs.IdealSlot.{same-ideal}
-use Rattle.model.proofs.Delay.{Delays, gives, chain-delays, given-is-due, due-from-nothing}
-use Rattle.model.proofs.Delay.{arrived-since-fresh}
-use Rattle.model.proofs.Sentences.{sentences}
-use Rattle.model.proofs.Missing.{misses}
+use Rattle.model.proofs.basics.AllOf.{_also_}
+use Rattle.model.proofs.basics.Tests.{and-both, between-holds}
+use Rattle.model.proofs.basics.FirstRefusal.{not-first, when-excluded}
+use Rattle.model.proofs.basics.Rings.{ring-fresh}
+use Rattle.model.proofs.one_slot.Rules.{Keeps, keeps-holds}
+use Rattle.model.proofs.one_slot.Kept.{length-joined, accept-kept}
+use Rattle.model.proofs.one_slot.Calls.{AnswerForm, form-refused, form-accepted, promised-form, answersOf}
+use Rattle.model.proofs.one_slot.Calls.{run-steps, run-chain}
+use Rattle.model.proofs.no_miss.Good.{Good, form-good, good-fresh}
+use Rattle.model.proofs.delay.IdealSlot.{same-ideal}
+use Rattle.model.proofs.delay.Delay.{Delays, gives, chain-delays, given-is-due, due-from-nothing}
+use Rattle.model.proofs.delay.Delay.{arrived-since-fresh}
+use Rattle.model.proofs.delay.Sentences.{sentences}
+use Rattle.model.proofs.missing.Misses.{misses}
 
 -- What holds of every call on a good state holds all along a chain from one: sizes and the store's length stay.
 module _ (limits : Limits) where
   along : (P : Step → Type 0) (s : Sizes) (n : ℕ)
       → ((x : State) (store : List ℕ) (call : Call) (a : Answer) → Good limits x → x .sizes ≡ s → length store ≡ n
-      → Told (full limits) x store call a → P (stepOf x store call a))
+      → AnswerForm (full limits) x store call a → P (stepOf x store call a))
       → {x : State} {store : List ℕ} {calls : List Call} {answers : List Answer}
       → Good limits x → x .sizes ≡ s → length store ≡ n
       → Chain (full limits) x store calls answers → All P (stepsOf x store calls answers)
   along P s n f g e l no-call = tt
   along P s n f g e l (next-call {x = x} {store = store} {call = call} {a = a} p c) =
-      let t = promised-told (full limits) x store call a p in
-      let k = told-good limits x store call a g t in
+      let t = promised-form (full limits) x store call a p in
+      let k = form-good limits x store call a g t in
       (f x store call a g e l t, along P s n f (k .good) (k .same-sizes ∙ e) (k .same-length ∙ l) c)
 
   -- The caches hold, whether the slot is refused or accepted.
   call-caches : (x : State) (store : List ℕ) (call : Call) (a : Answer) → Good limits x
-      → Told (full limits) x store call a → CachesHold (x .sizes) (stepOf x store call a)
-  call-caches x store call a g (told-refused n e) = record {
+      → AnswerForm (full limits) x store call a → CachesHold (x .sizes) (stepOf x store call a)
+  call-caches x store call a g (form-refused n e) = record {
     tail-joined = g .kept .tail-fits;
     tail-ends = g .kept .tail-fits;
     head-read = g .kept .head-fits;
     head-ends = g .kept .head-fits;
   }
-  call-caches x store call a g (told-accepted m n f r) =
+  call-caches x store call a g (form-accepted m n f r) =
       let k = accept-kept (full limits) x store call (omega arith) f .kept in record {
         tail-joined = length-joined x (call .arrival) (g .kept .tail-fits) (f .judged .tail-room);
         tail-ends = k .tail-fits;
@@ -66,9 +68,9 @@ module _ (limits : Limits) where
 
   -- 8, 9 and 10 never come, since every refusal is 7 or lower.
   no-miss : (x : State) (store : List ℕ) (call : Call) (a : Answer) → Good limits x
-      → Told (full limits) x store call a → NoMiss (stepOf x store call a)
+      → AnswerForm (full limits) x store call a → NoMiss (stepOf x store call a)
   no-miss x store call a g t =
-      let low = told-good limits x store call a g t .low in record {
+      let low = form-good limits x store call a g t .low in record {
         not-8 = λ e. omega (arith, e, low);
         not-9 = λ e. omega (arith, e, low);
         not-10 = λ e. omega (arith, e, low);
@@ -78,37 +80,20 @@ module _ (limits : Limits) where
   never : (bad : ℕ) → 1 ≤ bad → bad ≤ 3 → (x : State) (store : List ℕ) (call : Call) (a : Answer)
       → (3 ≡ bad → not (keeps (full limits) x) ≡ false)
       → (2 ≡ bad → ltb (length store) (storeBytes (x .sizes)) ≡ false)
-      → Told (full limits) x store call a → a .number ≡ bad → ⊥
-  never bad pos low x store call a three two (told-accepted m n f r) e = omega (arith, e)
-  never bad pos low x store call a three two (told-refused n f) e =
+      → AnswerForm (full limits) x store call a → a .number ≡ bad → ⊥
+  never bad pos low x store call a three two (form-accepted m n f r) e = omega (arith, e)
+  never bad pos low x store call a three two (form-refused n f) e =
       not-first bad (refusals (full limits) x store call) pos (
-        when-excluded bad (not (keeps (full limits) x)) 3 pos three,
-        (
-          when-excluded bad (ltb (length store) (storeBytes (x .sizes))) 2 pos two,
-          (
-            later (arrivalUnknown x (call .arrival)) 4 (omega arith),
-            (
-              later (arrivalFull x (call .arrival)) 5 (omega arith),
-              (
-                later (requestUnknown x (call .request)) 6 (omega arith),
-                (
-                  later (nothingToTake x (call .arrival) (call .request)) 7 (omega arith),
-                  (
-                    later (leavesUncovered (oldestCell (x .cells)) x) 8 (omega arith),
-                    (
-                      later (tailFull x (call .arrival)) 9 (omega arith),
-                      (
-                        later (headFull (wrote x call) (queueToRead (wrote x call))) 10 (omega arith),
-                        tt,
-                      ),
-                    ),
-                  ),
-                ),
-              ),
-            ),
-          ),
-        ),
-      )
+      when-excluded bad (not (keeps (full limits) x)) 3 pos three
+      also when-excluded bad (ltb (length store) (storeBytes (x .sizes))) 2 pos two
+      also later (arrivalUnknown x (call .arrival)) 4 (omega arith)
+      also later (arrivalFull x (call .arrival)) 5 (omega arith)
+      also later (requestUnknown x (call .request)) 6 (omega arith)
+      also later (nothingToTake x (call .arrival) (call .request)) 7 (omega arith)
+      also later (leavesUncovered (oldestCell (x .cells)) x) 8 (omega arith)
+      also later (tailFull x (call .arrival)) 9 (omega arith)
+      also later (headFull (wrote x call) (queueToRead (wrote x call))) 10 (omega arith)
+      also tt)
       (f ∙ e)
     where
       later : (t : Bool) (k : ℕ) → 3 < k → when t k ≡ bad → ⊥
@@ -120,7 +105,7 @@ module _ (limits : Limits) where
       → All (λ (step : Step). Keeps (full limits) (step .state)) (stepsOf x store calls answers)
   chain-keeps {x} {store} g c =
       along (λ (step : Step). Keeps (full limits) (step .state)) (x .sizes) (length store)
-      (λ y st call a v e l t. told-good limits y st call a v t .good .kept) g refl refl c
+      (λ y st call a v e l t. form-good limits y st call a v t .good .kept) g refl refl c
 
 -- A fresh state stands for the ideal buffer in which nothing waits and nothing comes.
 line-fresh : (streams : ℕ → List ℕ) (n : ℕ) → lineOf streams (replicate n empty) ≡ replicate n none
@@ -170,7 +155,7 @@ every-chain limits s store calls answers e c = record {
 
     all : (P : Step → Type 0)
         → ((y : State) (st : List ℕ) (call : Call) (a : Answer) → Good limits y → y .sizes ≡ s
-        → length st ≡ length store → Told (full limits) y st call a → P (stepOf y st call a))
+        → length st ≡ length store → AnswerForm (full limits) y st call a → P (stepOf y st call a))
         → All P steps
     all P f = along limits P s (length store) f good refl refl c
 

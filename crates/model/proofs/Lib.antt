@@ -1,45 +1,20 @@
--- The theory of the model: laws of its definitions, and demand 3. Each file opens with what it shows and why.
+-- The theory of the model, in chapters in the order of the argument: laws of its definitions, and demand 3. Each file
+-- opens with what holds and why, and names its main statement.
 
--- Words, the limits, sums over queues, caches and lookahead as each queue sees them.
-pub mod Words
-pub mod Limits
-pub mod Sums
-pub mod Bytes
-pub mod Cells
+-- What the definitions share: tests, lists, limits, sums, and caches, lookahead and rings as each queue sees them.
+pub mod basics
 -- The definitions say what the paper says.
-pub mod Meaning
-pub mod Fullest
-pub mod Scan
-pub mod Margin
-pub mod States
-pub mod Marks
--- One slot: refused or accepted, and what an accepted one keeps.
-pub mod Rings
-pub mod Rules
-pub mod Accepted
-pub mod Kept
-pub mod Elsewhere
-pub mod Calls
--- Lists of slots in two parts.
-pub mod Lists
+pub mod meaning
+-- One slot: refused or accepted, and what an accepted one keeps; lists of slots.
+pub mod one_slot
 -- Many idle slots as one shift of the cells and one turn of the phase.
-pub mod Idle
-pub mod QuietCount
+pub mod idle
 -- Why 8, 9 and 10 never come: the walk of orders and the invariant of a list.
-pub mod Walk
-pub mod Invariant
-pub mod Good
+pub mod no_miss
 -- Why the delay is fixed and the bytes are right: an accepted slot is a slot of the ideal buffer.
-pub mod Store
-pub mod Streams
-pub mod IdealSlot
-pub mod Delay
-pub mod Sentences
+pub mod delay
 -- Why one cell fewer is too few: the list that misses.
-pub mod MissingSlots
-pub mod MissingDrain
-pub mod MissingFill
-pub mod Missing
+pub mod missing
 -- Demand 3.
 pub mod Demand
 -- The paper's examples and its numbers at their ends, computed.

@@ -5,13 +5,13 @@ use mathlib.Core.Bool.{true}
 use mathlib.Core.List.{[], _∷_, _++_}
 use lib.Dec.{eqb}
 use lib.ListN.{replicate}
-use Rattle.model.specs.Words.{allTrue, allOf}
+use Rattle.model.specs.Basics.{allTrue, allOf}
 use Rattle.model.specs.Sizes.{sizes, paper}
 use Rattle.model.specs.State.{byte, empty, owed, fresh}
 use Rattle.model.specs.Slot.{refusal}
 use Rattle.model.specs.Calls.{arrival, request, both, idle}
-use Rattle.model.specs.Examples.{refused, _⇒_, made_phase_tail_head_cells_blocks_, slots}
-use Rattle.model.specs.Examples.{holds, sizesTaken, sizesRefused, sizesAre, blockIs, noBlock}
+use Rattle.model.specs.Examples.{refused, _⇒_, made_phase_tail_head_cells_blocks_, slots, holds, sizesTaken}
+use Rattle.model.specs.Examples.{sizesRefused, sizesAre, blockIs, noBlock}
 
 -- The least and the greatest Q, b and K, and one beyond. Q(b - 1) is 2,016 in the last sizes taken and 2,020, the next
 -- that the other limits allow, in the last refused.

@@ -6,10 +6,11 @@ use mathlib.Core.Option.{Option, some, none}
 use Prim.Native.Nat.{ℕ, _-_}
 use lib.Dec.{eqb}
 use lib.ListN.{length, replicate, getD}
-use Rattle.model.specs.Words.{allTrue}
+use Rattle.model.specs.Basics.{allTrue}
 use Rattle.model.specs.Sizes.{Sizes, sizes, lookahead, tailSize, headSize, storeBytes, Design, paper, oneFewer}
 use Rattle.model.specs.Sizes.{paperLimits, sizingNumber, sizedBlock}
 use Rattle.model.specs.State.{Byte, byte, Cell, empty, held, owed, ring, State, fresh, makingNumber, owes}
+use Rattle.model.specs.State.{withPhase, withTail, withHead, withCells, withRings, withTailMark, withHeadMark}
 use Rattle.model.specs.Slot.{Call, oldestCell, Answer, slot}
 use Rattle.model.specs.Calls.{arrival, request, both, idle}
 
@@ -25,10 +26,10 @@ pub data Outcome : Type 0 where
   -- Refused with 8, and the cell that was to leave is Owed to this queue.
   misses : ℕ → Outcome
 
--- A slot of a list beside its outcome.
+-- A slot of a list beside the outcome that is expected of it.
 infix 70 _⇒_
-pub data Line : Type 0 where
-  _⇒_ : Call → Outcome → Line
+pub data Expected : Type 0 where
+  _⇒_ : Call → Outcome → Expected
 
 -- The kinds of row. The last one is a list of slots in a design, from a state.
 pub data Example : Type 0 where
@@ -37,22 +38,19 @@ pub data Example : Type 0 where
   sizesAre : (Q b L tail head : ℕ) → Example
   blockIs : (rate grade b : ℕ) → Example
   noBlock : (rate grade number : ℕ) → Example
-  slots : Design → State → List Line → Example
+  slots : Design → State → List Expected → Example
 
 -- A made state, with what a sentence may name of it; blocks are by queue. The rest is as in a fresh state, but for the
 -- marks: they must be at least the fills, and they are the fills.
 infix 70 made_phase_tail_head_cells_blocks_
 abbrev pub made_phase_tail_head_cells_blocks_ : Sizes → ℕ → List Byte → List Byte → List Cell → List ℕ → State
-made s phase p tail ts head hs cells cs blocks ns = record {
-  sizes = s;
-  phase = p;
-  tail = ts;
-  head = hs;
-  cells = cs;
-  rings = map (ring 0) ns;
-  tailMark = length ts;
-  headMark = length hs;
-}
+made s phase p tail ts head hs cells cs blocks ns =
+    withPhase p
+    (withTail ts (withTailMark (length ts)
+    (withHead hs (withHeadMark (length hs)
+    (withCells cs
+    (withRings (map (ring 0) ns)
+    (fresh paper s)))))))
 
 -- Tests: two numbers or none are the same; a cell is Held with this queue and byte; the youngest of some cells.
 abbrev same : Option ℕ → Option ℕ → Bool
@@ -86,10 +84,10 @@ meets (refused n) a = answers n none none a
 meets (misses q) a = answers 8 none none a && eqb (owes q (oldestCell (a .state .cells))) 1
 
 -- Each slot has its outcome, and gets state and store as the one before left them.
-abbrev allMeet : Design → State → List ℕ → List Line → Bool
+abbrev allMeet : Design → State → List ℕ → List Expected → Bool
 allMeet design x store [] = true
-allMeet design x store ((call ⇒ outcome) ∷ lines) =
-    let a = slot design x store call in meets outcome a && allMeet design (a .state) (a .store) lines
+allMeet design x store ((call ⇒ outcome) ∷ expected) =
+    let a = slot design x store call in meets outcome a && allMeet design (a .state) (a .store) expected
 
 -- What rests on Q and b alone is taken with K 1. A list of slots gets a store that is just long enough.
 abbrev pub holds : Example → Bool
@@ -101,7 +99,7 @@ holds (sizesAre q b l t h) = allTrue (
     eqb (headSize (sizes q b 1)) h ∷ [])
 holds (blockIs rate grade b) = eqb (sizingNumber rate grade) 0 && same (sizedBlock rate grade) (some b)
 holds (noBlock rate grade n) = eqb (sizingNumber rate grade) n && same (sizedBlock rate grade) none
-holds (slots design x lines) = allMeet design x (replicate (storeBytes (x .sizes)) 0) lines
+holds (slots design x expected) = allMeet design x (replicate (storeBytes (x .sizes)) 0) expected
 
 -- C1 to C12. Where a sentence names no K, it is 1. A made state keeps the rules and the store is long enough: 3 and 2
 -- are judged first, and no row answers them.

@@ -1,5 +1,5 @@
--- Idle slots, which have no arrival and no request. A quiet one delivers nothing and moves no block: its cells shift by
--- one, its phase turns, and all else stays. So many quiet slots are one shift and one turn, whatever their number.
+-- Idle slots, which have no arrival and no request. A quiet one delivers nothing and moves no block: its cells shift
+-- by one, its phase turns, and all else stays. So many quiet slots are one shift and one turn, whatever their number.
 use mathlib.Core.Path.{_≡_}
 use mathlib.Core.Bool.{Bool, true, false}
 use mathlib.Core.List.{List, [], _∷_, _++_}
@@ -7,38 +7,20 @@ use mathlib.Core.Option.{Option, some, none}
 use Prim.Native.Nat.{ℕ, suc, _+_, _-_, _%_, _≤_, _<_, min}
 use lib.Dec.{eqb}
 use lib.ListN.{length, drop, replicate, getD}
-use Rattle.model.specs.Words.{choose}
+use Rattle.model.specs.Basics.{choose}
 use Rattle.model.specs.Sizes.{Sizes, lookahead}
-use Rattle.model.specs.State.{Cell, empty, held, owed, State, tailBytes, headBytes}
+use Rattle.model.specs.State.{Cell, empty, held, owed, State, withPhase, withCells, tailBytes, headBytes}
 use Rattle.model.specs.Slot.{fullest, refillQueue}
 use Rattle.model.specs.Lists.{Step}
 
 -- The state after m slots that only turn the phase.
 abbrev pub turned : ℕ → State → State
-turned m x = record {
-  sizes = x .sizes;
-  phase = (x .phase + m) % x .sizes .b;
-  tail = x .tail;
-  head = x .head;
-  cells = x .cells;
-  rings = x .rings;
-  tailMark = x .tailMark;
-  headMark = x .headMark;
-}
+turned m x = withPhase ((x .phase + m) % x .sizes .b) x
 
 -- The state after m quiet slots, m being at most the number of cells: m cells have left, and as many empty ones have
 -- come.
 abbrev pub quietly : ℕ → State → State
-quietly m x = record {
-  sizes = x .sizes;
-  phase = (x .phase + m) % x .sizes .b;
-  tail = x .tail;
-  head = x .head;
-  cells = drop m (x .cells) ++ replicate m empty;
-  rings = x .rings;
-  tailMark = x .tailMark;
-  headMark = x .headMark;
-}
+quietly m x = withCells (drop m (x .cells) ++ replicate m empty) (turned m x)
 
 -- A move would find nothing: no queue has a block of tail bytes, and the head bytes cover every Owed cell.
 pub record NothingToMove (x : State) : Type 0 where

@@ -1,7 +1,7 @@
--- The slot buffer of document 01, as definitions. Sizes, State, Slot and Lists render its sections in its order; Words
--- has what they share, Ideal the buffer as a user thinks of it, Demand the statements of demand 3, Idle what idle slots
--- come to, Examples the paper's table of examples.
-pub mod Words
+-- The slot buffer of document 01, as definitions. Sizes, State, Slot and Lists render its sections in its order;
+-- Basics has what they share, Calls the calls by name, Ideal the buffer as a user thinks of it, Demand the statements
+-- of demand 3, Idle what idle slots come to, Examples the paper's table of examples.
+pub mod Basics
 pub mod Sizes
 pub mod State
 pub mod Slot

@@ -5,7 +5,7 @@ use mathlib.Core.Option.{Option, some, none}
 use Prim.Native.Nat.{ℕ, zero, suc, _+_}
 use lib.Dec.{eqb}
 use lib.ListN.{length, take, getElem?}
-use Rattle.model.specs.Words.{choose, tabulate}
+use Rattle.model.specs.Basics.{choose, tabulate}
 use Rattle.model.specs.Sizes.{Sizes, Design}
 use Rattle.model.specs.State.{Byte, State, fresh, valuesOf, SameButMarks, MarksInRange}
 use Rattle.model.specs.Slot.{Call, asByte, arriving, joined, refilled, Answer, slot}

@@ -5,7 +5,7 @@ use mathlib.Core.Option.{Option, some, none}
 use Prim.Native.Nat.{ℕ, _+_, _-_, _*_, _/_}
 use lib.Dec.{eqb, leb}
 use lib.ListN.{getD}
-use Rattle.model.specs.Words.{choose, between, allTrue, when}
+use Rattle.model.specs.Basics.{choose, between, allTrue, when}
 
 -- "Q queues .. b bytes to a block .. K blocks of slow store to a queue": the letters are the paper's.
 pub record Sizes : Type 0 where

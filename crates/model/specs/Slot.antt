@@ -5,9 +5,10 @@ use mathlib.Core.Option.{Option, some, none}
 use Prim.Native.Nat.{ℕ, zero, suc, _+_, _-_, _*_, _%_, max}
 use lib.Dec.{eqb, ltb, leb}
 use lib.ListN.{length, take, drop, set, getElem?}
-use Rattle.model.specs.Words.{choose, update, when, firstRefusal}
+use Rattle.model.specs.Basics.{choose, update, when, firstRefusal}
 use Rattle.model.specs.Sizes.{Sizes, Design, tailSize, headSize, storeBytes, blockPlace}
 use Rattle.model.specs.State.{Byte, byte, Cell, empty, held, owed, Ring, ring, State, valuesOf, countOf}
+use Rattle.model.specs.State.{withPhase, withTail, withHead, withCells, withRings, withTailMark, withHeadMark}
 use Rattle.model.specs.State.{tailBytes, headBytes, owedCells, ringOf, blocks, keeps}
 
 -- "A slot may have one arrival (queue, byte) and one request (queue)."
@@ -49,16 +50,9 @@ abbrev pub delivery : State → Option Byte
 delivery x = deliveryOf (oldestCell (x .cells)) (x .head)
 
 abbrev pub afterDelivery : State → State
-afterDelivery x = record {
-  sizes = x .sizes;
-  phase = x .phase;
-  tail = x .tail;
-  head = headWithout (oldestCell (x .cells)) (x .head);
-  cells = drop 1 (x .cells);
-  rings = x .rings;
-  tailMark = x .tailMark;
-  headMark = x .headMark;
-}
+afterDelivery x =
+    withHead (headWithout (oldestCell (x .cells)) (x .head))
+    (withCells (drop 1 (x .cells)) x)
 
 -- 2. "The arriving byte joins the tail." A mark rises with its fill: the paper leaves it free between fill and cache
 -- size, the model takes the greatest fill so far, and no promise of a whole slot speaks of that choice.
@@ -67,16 +61,9 @@ arriving none = []
 arriving (some y) = y ∷ []
 
 abbrev pub afterArrival : Option Byte → State → State
-afterArrival arrival x = record {
-  sizes = x .sizes;
-  phase = x .phase;
-  tail = x .tail ++ arriving arrival;
-  head = x .head;
-  cells = x .cells;
-  rings = x .rings;
-  tailMark = max (x .tailMark) (length (x .tail ++ arriving arrival));
-  headMark = x .headMark;
-}
+afterArrival arrival x =
+    withTail (x .tail ++ arriving arrival)
+    (withTailMark (max (x .tailMark) (length (x .tail ++ arriving arrival))) x)
 
 -- 3. "The request takes the youngest cell. It is Owed if the queue's head bytes + b × blocks exceed its Owed cells.
 -- Otherwise it is Held and takes the oldest tail byte of its queue. With no request the cell is empty." In an
@@ -97,16 +84,9 @@ tailLeft x none = x .tail
 tailLeft x (some q) = choose (isOwed x q) (x .tail) (without 1 q (x .tail))
 
 abbrev pub afterRequest : Option ℕ → State → State
-afterRequest request x = record {
-  sizes = x .sizes;
-  phase = x .phase;
-  tail = tailLeft x request;
-  head = x .head;
-  cells = x .cells ++ youngestCell x request ∷ [];
-  rings = x .rings;
-  tailMark = x .tailMark;
-  headMark = x .headMark;
-}
+afterRequest request x =
+    withTail (tailLeft x request)
+    (withCells (x .cells ++ youngestCell x request ∷ []) x)
 
 -- 4. "If the phase is b - 1, two moves follow."
 abbrev pub moves : State → Bool
@@ -143,16 +123,9 @@ ringsWritten (some q) x =
     set (x .rings) q (ring (ringOf (x .rings) q .first) (ringOf (x .rings) q .count + 1))
 
 abbrev pub afterWrite : Option ℕ → State → State
-afterWrite written x = record {
-  sizes = x .sizes;
-  phase = x .phase;
-  tail = tailWritten written x;
-  head = x .head;
-  cells = x .cells;
-  rings = ringsWritten written x;
-  tailMark = x .tailMark;
-  headMark = x .headMark;
-}
+afterWrite written x =
+    withTail (tailWritten written x)
+    (withRings (ringsWritten written x) x)
 
 abbrev pub storeWritten : Option ℕ → State → List ℕ → List ℕ
 storeWritten none x store = store
@@ -192,29 +165,14 @@ ringsRead (some q) x =
     set (x .rings) q (ring ((ringOf (x .rings) q .first + 1) % x .sizes .K) (ringOf (x .rings) q .count - 1))
 
 abbrev pub afterRead : Option ℕ → State → List ℕ → State
-afterRead readQueue x store = record {
-  sizes = x .sizes;
-  phase = x .phase;
-  tail = x .tail;
-  head = headRead readQueue x store;
-  cells = x .cells;
-  rings = ringsRead readQueue x;
-  tailMark = x .tailMark;
-  headMark = max (x .headMark) (length (headRead readQueue x store));
-}
+afterRead readQueue x store =
+    withHead (headRead readQueue x store)
+    (withHeadMark (max (x .headMark) (length (headRead readQueue x store)))
+    (withRings (ringsRead readQueue x) x))
 
 -- 5. "The phase rises by one, and after b - 1 comes 0."
 abbrev pub afterPhase : State → State
-afterPhase x = record {
-  sizes = x .sizes;
-  phase = choose (moves x) 0 (x .phase + 1);
-  tail = x .tail;
-  head = x .head;
-  cells = x .cells;
-  rings = x .rings;
-  tailMark = x .tailMark;
-  headMark = x .headMark;
-}
+afterPhase x = withPhase (choose (moves x) 0 (x .phase + 1)) x
 
 -- The state along a slot: after the arrival, after the request, after the write (with its store), after the read.
 abbrev pub joined : State → Call → State

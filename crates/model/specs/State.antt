@@ -7,7 +7,7 @@ use lib.Dec.{eqb, ltb, leb}
 use lib.IntN.{ℤ, pos, _-ℤ_}
 use lib.Signed.{ltZ}
 use lib.ListN.{length, getD, replicate}
-use Rattle.model.specs.Words.{choose, when, between, allTrue, allOf, allBelow}
+use Rattle.model.specs.Basics.{choose, when, between, allTrue, allOf, allBelow}
 use Rattle.model.specs.Sizes.{Sizes, Design, accepts, tailSize, headSize}
 
 -- "Each byte with its queue."
@@ -57,6 +57,48 @@ fresh design s = record {
   tailMark = 0;
   headMark = 0;
 }
+
+-- A state from its items. A new item of the state is one more here and in each line of the setters below.
+abbrev pub stateFrom : Sizes → ℕ → List Byte → List Byte → List Cell → List Ring → ℕ → ℕ → State
+stateFrom s phase tail head cells rings tailMark headMark = record {
+  sizes = s;
+  phase = phase;
+  tail = tail;
+  head = head;
+  cells = cells;
+  rings = rings;
+  tailMark = tailMark;
+  headMark = headMark;
+}
+
+-- The state with one item anew, and all others as they were: a step names what it changes, and nothing else.
+abbrev pub withPhase : ℕ → State → State
+withPhase phase x =
+    stateFrom (x .sizes) phase (x .tail) (x .head) (x .cells) (x .rings) (x .tailMark) (x .headMark)
+
+abbrev pub withTail : List Byte → State → State
+withTail tail x =
+    stateFrom (x .sizes) (x .phase) tail (x .head) (x .cells) (x .rings) (x .tailMark) (x .headMark)
+
+abbrev pub withHead : List Byte → State → State
+withHead head x =
+    stateFrom (x .sizes) (x .phase) (x .tail) head (x .cells) (x .rings) (x .tailMark) (x .headMark)
+
+abbrev pub withCells : List Cell → State → State
+withCells cells x =
+    stateFrom (x .sizes) (x .phase) (x .tail) (x .head) cells (x .rings) (x .tailMark) (x .headMark)
+
+abbrev pub withRings : List Ring → State → State
+withRings rings x =
+    stateFrom (x .sizes) (x .phase) (x .tail) (x .head) (x .cells) rings (x .tailMark) (x .headMark)
+
+abbrev pub withTailMark : ℕ → State → State
+withTailMark tailMark x =
+    stateFrom (x .sizes) (x .phase) (x .tail) (x .head) (x .cells) (x .rings) tailMark (x .headMark)
+
+abbrev pub withHeadMark : ℕ → State → State
+withHeadMark headMark x =
+    stateFrom (x .sizes) (x .phase) (x .tail) (x .head) (x .cells) (x .rings) (x .tailMark) headMark
 
 -- "1: sizes outside the limits: no state made." "A making of a state checks 1 only."
 abbrev pub makingNumber : Design → Sizes → ℕ

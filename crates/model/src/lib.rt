@@ -3,7 +3,7 @@
 // the gate must prove them.
 ghost use mathlib.Core.Path.{_≡_};
 ghost use mathlib.Core.Bool.{true};
-ghost use Rattle.model.specs.Words.{allOf};
+ghost use Rattle.model.specs.Basics.{allOf};
 ghost use Rattle.model.specs.Sizes.{Limits};
 ghost use Rattle.model.specs.Demand.{Demand-3};
 ghost use Rattle.model.specs.Examples.{examples, holds};

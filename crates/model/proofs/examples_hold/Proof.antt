@@ -1,3 +1,4 @@
+-- `examples_hold` meets its contract: it is the theorem of Examples.
 use Rattle.model.proofs.Examples.{examples-hold}
 use Rattle.model.proofs.examples_hold.Statement.{statement}
 use Rattle.model.proofs.examples_hold.Tie as tie

@@ -1,0 +1,11 @@
+-- What the definitions share: tests and lists as facts, the limits, sums over queues, and caches, lookahead and rings
+-- as each queue sees them.
+pub mod Tests
+pub mod AllOf
+pub mod FirstRefusal
+pub mod Limits
+pub mod Sums
+pub mod Bytes
+pub mod Cells
+pub mod Rings
+pub mod States

@@ -1,0 +1,10 @@
+-- The delay is fixed and the bytes are right: an accepted slot is a slot of the ideal buffer, whose line is a delay
+-- line.
+pub mod Store
+pub mod Line
+pub mod Delivery
+pub mod Request
+pub mod Moves
+pub mod IdealSlot
+pub mod Delay
+pub mod Sentences

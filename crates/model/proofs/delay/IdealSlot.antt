@@ -1,0 +1,158 @@
+-- An accepted slot, from any state that keeps the rules, is a slot of the ideal buffer, since each of its steps does
+-- to line and waiting bytes what the ideal slot does, and the two moves do nothing: `accepted-is-ideal`. And 7 comes
+-- exactly where the ideal buffer has nothing to give: `seven-exactly`.
+use mathlib.Core.Path.{_≡_, refl, ap, sym, _∙_, fun-ext, subst}
+use mathlib.Core.Bool.{false}
+use mathlib.Core.List.{List, [], _∷_, _++_}
+use mathlib.Core.Option.{Option, some, none}
+use Prim.Native.Nat.{ℕ, _+_, _-_, _*_, _<_, _≤_}
+use native.Mathlib.Omega.{arith}
+use lib.Dec.{eqb}
+use lib.ListN.{length, drop, length-append, length-drop}
+use borrow.Author.Tests.{ltb-true, ltb-false, le-ltb, ne-eqb}
+use Rattle.model.specs.Sizes.{Design, storeBytes}
+use Rattle.model.specs.State.{Byte, State, valuesOf, countOf, headBytes, owedCells, blocks}
+use Rattle.model.specs.Slot.{Call, arriving, isOwed, afterDelivery, afterWrite, storeWritten, afterRead, accept}
+use Rattle.model.specs.Slot.{queueToWrite, queueToRead, joined, asked, wrote, wroteStore, refilled, nothingToTake}
+use Rattle.model.specs.Lists.{asks}
+use Rattle.model.specs.Ideal.{Ideal, waitingWith, nextByteOf, stream, lineOf, standsFor, idealSlot, IsIdealSlot}
+use Rattle.model.proofs.basics.Tests.{by-test}
+use Rattle.model.proofs.basics.Bytes.{count-append}
+use Rattle.model.proofs.one_slot.Rules.{Rules}
+use Rattle.model.proofs.one_slot.MovesKeepRules.{WriteTaken, ReadTaken}
+use Rattle.model.proofs.one_slot.Accepted.{Judged}
+use Rattle.model.proofs.one_slot.Kept.{rules-2, rules-3, rules-written, write-taken, read-taken}
+use Rattle.model.proofs.delay.Line.{line, waiting, ringValues}
+use Rattle.model.proofs.delay.Delivery.{delivered-soonest, line-delivered, waiting-delivered}
+use Rattle.model.proofs.delay.Delivery.{owed-after-delivery, waiting-arrived}
+use Rattle.model.proofs.delay.Request.{stream-length, Asked, asked-is}
+use Rattle.model.proofs.delay.Moves.{line-written, waiting-written, stream-read}
+
+-- Two ideal buffers with the same line and the same waiting bytes are the same.
+pub same-ideal : (i j : Ideal) → ((q : ℕ) → i .waiting q ≡ j .waiting q) → i .line ≡ j .line → i ≡ j
+same-ideal i j w l =
+    ap (λ (f : ℕ → List ℕ). record { waiting = f; line = i .line }) (fun-ext w)
+    ∙ ap (λ (m : List (Option Byte)). record { waiting = j .waiting; line = m }) l
+
+-- The two moves change nothing of what a state stands for.
+pub record Same (x : State) (store : List ℕ) (x′ : State) (store′ : List ℕ) : Type 0 where
+  pub same-line : line x′ store′ ≡ line x store
+  pub same-waiting : (q : ℕ) → waiting x′ store′ q ≡ waiting x store q
+
+same-written : (n : ℕ) (y : State) (o : Option ℕ) (store : List ℕ) → WriteTaken y o → 1 ≤ y .sizes .b
+    → storeBytes (y .sizes) ≤ length store → Rules n y → Same y store (afterWrite o y) (storeWritten o y store)
+same-written n y none store f pos long v = record { same-line = refl; same-waiting = λ q. refl }
+same-written n y (some q) store f pos long v = record {
+  same-line = line-written n y q store (f q refl) pos long v;
+  same-waiting = waiting-written n y q store (f q refl) pos long v;
+}
+
+same-read : (n : ℕ) (z : State) (o : Option ℕ) (store : List ℕ) → ReadTaken z o → Rules n z
+    → Same z store (afterRead o z store) store
+same-read n z none store f v = record { same-line = refl; same-waiting = λ q. refl }
+same-read n z (some q) store f v = record {
+  same-line = ap (λ (g : ℕ → List ℕ). lineOf g (z .cells)) (fun-ext same);
+  same-waiting = λ p. ap (λ (l : List ℕ). drop (owedCells z p) l ++ valuesOf p (z .tail)) (same p);
+}
+  where
+    same : (p : ℕ) → stream (afterRead (some q) z store) store p ≡ stream z store p
+    same = stream-read n z q store (f q refl) v
+
+module _ (design : Design) (x : State) (store : List ℕ) (call : Call)
+    (cells-ok : 1 ≤ design .cellCount (x .sizes)) (j : Judged design x store call) where
+  abbrev y₂ : State
+  y₂ = joined x call
+
+  abbrev y₃ : State
+  y₃ = asked x call
+
+  abbrev z : State
+  z = wrote x call
+
+  abbrev store′ : List ℕ
+  store′ = wroteStore x store call
+
+  -- A request that is Held after the delivery would be Held before it, and so finds its byte in the tail.
+  pub held-before : (q : ℕ) → isOwed y₂ q ≡ false → isOwed x q ≡ false
+  held-before q f =
+      le-ltb (owedCells x q) (headBytes x q + x .sizes .b * blocks x q)
+      (omega (
+        arith,
+        owed-after-delivery x q (j .covered),
+        ltb-false (owedCells y₂ q) (headBytes y₂ q + x .sizes .b * blocks x q) f,
+      ))
+
+  joined-waiting : (q : ℕ) → waiting y₂ store q ≡ waitingWith (waiting x store) (call .arrival) q
+  joined-waiting q =
+      waiting-arrived (afterDelivery x) (call .arrival) store q
+      ∙ ap (λ (l : List ℕ). l ++ valuesOf q (x .tail) ++ valuesOf q (arriving (call .arrival)))
+      (waiting-delivered x (ringValues x store) (x .cells) (j .covered) q)
+
+  asked-so : Asked y₂ (call .request) store
+  asked-so =
+      asked-is _ y₂ (call .request) store
+      (λ q s. (j .request-ok q s, λ f. j .byte-there q s (held-before q f)))
+      (j .store-long) (rules-2 design x store call cells-ok j)
+
+  wrote-so : Same y₃ store z store′
+  wrote-so =
+      same-written _ y₃ (queueToWrite y₃) store (write-taken y₃) (omega (arith, j .kept .phase-ok)) (j .store-long)
+      (rules-3 design x store call cells-ok j)
+
+  read-so : Same z store′ (refilled x store call) store′
+  read-so =
+      same-read _ z (queueToRead z) store′ (read-taken _ z (rules-written design x store call cells-ok j))
+      (rules-written design x store call cells-ok j)
+
+  line-so : line (refilled x store call) store′
+      ≡ drop 1 (line x store) ++ nextByteOf (waitingWith (waiting x store) (call .arrival)) (call .request) ∷ []
+  line-so =
+      read-so .same-line ∙ wrote-so .same-line ∙ asked-so .line-is
+      ∙ ap (λ (l : List (Option Byte)). l ++ nextByteOf (waiting y₂ store) (call .request) ∷ [])
+      (line-delivered x (ringValues x store) (x .cells) (j .covered))
+      ∙ ap (λ (w : ℕ → List ℕ). drop 1 (line x store) ++ nextByteOf w (call .request) ∷ []) (fun-ext joined-waiting)
+
+  waiting-so : (q : ℕ) → waiting (refilled x store call) store′ q
+      ≡ drop (asks q (call .request)) (waitingWith (waiting x store) (call .arrival) q)
+  waiting-so q =
+      read-so .same-waiting q ∙ wrote-so .same-waiting q ∙ asked-so .waiting-is q
+      ∙ ap (drop (asks q (call .request))) (joined-waiting q)
+
+  pub accepted-is-ideal : IsIdealSlot x store call (accept x store call)
+  accepted-is-ideal = record {
+    delivers = delivered-soonest x (ringValues x store) (x .cells) (j .covered);
+    leaves = same-ideal (standsFor (refilled x store call) store′)
+        (idealSlot call (standsFor x store)) waiting-so line-so;
+    byte-waits = λ q. subst (λ (l : List ℕ). asks q (call .request) ≤ length l) (joined-waiting q)
+        (asked-so .byte-waits q);
+  }
+
+-- 7 comes exactly where nothing waits, this slot's arrival counted.
+pub seven-exactly : (n : ℕ) (x : State) (store : List ℕ) (arrival : Option Byte) (q : ℕ)
+    → q < x .sizes .Q → storeBytes (x .sizes) ≤ length store → Rules n x
+    → nothingToTake x arrival (some q) ≡ eqb (length (waitingWith (standsFor x store .waiting) arrival q)) 0
+seven-exactly n x store arrival q l long v =
+    by-test (isOwed x q)
+    (λ t. rw t (sym (ne-eqb all 0 (λ e. omega (arith, e, all-is, ltb-true (owedCells x q) have t)))))
+    (λ t. rw t (ap (λ (m : ℕ). eqb m 0)
+    (let e : there ≡ all = omega (arith, all-is, ltb-false (owedCells x q) have t) in e)))
+  where
+    have : ℕ
+    have = headBytes x q + x .sizes .b * blocks x q
+
+    there : ℕ
+    there = countOf q (x .tail ++ arriving arrival)
+
+    all : ℕ
+    all = length (waitingWith (standsFor x store .waiting) arrival q)
+
+    all-is : all ≡ have - owedCells x q + there
+    all-is =
+        omega (
+          arith,
+          length-append (waiting x store q) (valuesOf q (arriving arrival)),
+          length-append (drop (owedCells x q) (stream x store q)) (valuesOf q (x .tail)),
+          length-drop (owedCells x q) (stream x store q),
+          stream-length n x store q l long v,
+          count-append q (x .tail) (arriving arrival),
+        )

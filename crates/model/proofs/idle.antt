@@ -1,0 +1,6 @@
+-- Many idle slots are one shift of the cells and one turn of the phase, as long as they are quiet.
+pub mod QuietSlot
+pub mod QuietSlots
+pub mod EmptySlots
+pub mod Stuck
+pub mod QuietCount

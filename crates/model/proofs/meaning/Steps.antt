@@ -1,0 +1,111 @@
+-- What the steps mean, in the paper's words: small laws that say of each definition what its sentence says. The
+-- theory rests on these, and a definition that says something else is refused here first. Each law stands under its
+-- sentence.
+use mathlib.Core.Path.{_≡_, refl, ap, _∙_}
+use mathlib.Core.Bool.{Bool, true, false, not}
+use mathlib.Core.List.{List, _++_}
+use mathlib.Core.Option.{Option, some, none}
+use Prim.Native.Nat.{ℕ, _+_, _-_, _*_, _<_, _≤_}
+use native.Mathlib.Omega.{arith}
+use lib.Dec.{eqb, ltb}
+use lib.ListN.{length, drop, length-replicate}
+use borrow.Author.Tests.{ltb-true, ltb-false, ne-eqb, eqb-true, eq-eqb, not-true}
+use Rattle.model.specs.Basics.{choose}
+use Rattle.model.specs.Sizes.{Sizes, sizes, Limits, Design, full, oneFewer, cycleTime}
+use Rattle.model.specs.State.{Byte, empty, held, owed, State, fresh, valuesOf, countOf, tailBytes, headBytes}
+use Rattle.model.specs.State.{blocks}
+use Rattle.model.specs.Slot.{Call, oldestOf, heldCell, youngestCell, arrivalFull, without, oldestCell, deliveryOf}
+use Rattle.model.specs.Slot.{arriving, isOwed, tailLeft, moves, fullest, queueToWrite, refillQueue, queueToRead}
+use Rattle.model.specs.Slot.{joined, nothingToTake, accept}
+use Rattle.model.proofs.basics.Tests.{by-test, and-left, and-right}
+use Rattle.model.proofs.basics.AllOf.{all-below-facts}
+use Rattle.model.proofs.basics.Bytes.{values-without-same}
+
+-- "A fresh state has all L cells empty": as many as its design has, L in the paper's and L - 1 with one fewer.
+pub fresh-cells : (design : Design) (s : Sizes) → length (fresh design s .cells) ≡ design .cellCount s
+fresh-cells design s = length-replicate (design .cellCount s) empty
+
+pub full-cells : (limits : Limits) (s : Sizes) → length (fresh (full limits) s .cells) ≡ s .Q * (s .b - 1) + 1
+full-cells limits s = fresh-cells (full limits) s
+
+pub fewer-cells : (limits : Limits) (s : Sizes)
+    → length (fresh (oneFewer limits) s .cells) + 1 ≡ length (fresh (full limits) s .cells)
+fewer-cells limits s = omega (arith, full-cells limits s, fresh-cells (oneFewer limits) s)
+
+-- "5 ns to 80 ns in steps of 5, grade 0 first."
+pub steps-of-five : (g : ℕ) → g < 16 → cycleTime g ≡ 5 * (g + 1)
+steps-of-five g l =
+    eqb-true (cycleTime g) (5 * (g + 1)) (all-below-facts 16 (λ n. eqb (cycleTime n) (5 * (n + 1))) refl g l)
+
+-- 1. The oldest cell has left, and its byte is fixed, before the arrival joins: the head as handed in delivers.
+pub leaves-first : (x : State) (call : Call) → joined x call .cells ≡ drop 1 (x .cells)
+leaves-first x call = refl
+
+pub delivers-as-handed-in : (x : State) (store : List ℕ) (call : Call)
+    → accept x store call .delivered ≡ deliveryOf (oldestCell (x .cells)) (x .head)
+delivers-as-handed-in x store call = refl
+
+-- 3. "A byte asked for while in the tail travels in its cell and never goes to slow store": it leaves the tail.
+pub held-takes-from-tail : (x : State) (q : ℕ) → isOwed x q ≡ false → tailLeft x (some q) ≡ without 1 q (x .tail)
+held-takes-from-tail x q t = ap (λ (b : Bool). choose b (x .tail) (without 1 q (x .tail))) t
+
+pub held-byte-leaves-tail : (x : State) (q : ℕ) → isOwed x q ≡ false
+    → valuesOf q (tailLeft x (some q)) ≡ drop 1 (valuesOf q (x .tail))
+held-byte-leaves-tail x q t = ap (valuesOf q) (held-takes-from-tail x q t) ∙ values-without-same 1 q (x .tail)
+
+pub held-byte-travels : (x : State) (q v : ℕ) → isOwed x q ≡ false → oldestOf q (x .tail) ≡ some v
+    → youngestCell x (some q) ≡ held q v
+held-byte-travels x q v t e =
+    ap (λ (b : Bool). choose b (owed q) (heldCell q (oldestOf q (x .tail)))) t ∙ ap (heldCell q) e
+
+pub owed-leaves-tail : (x : State) (q : ℕ) → isOwed x q ≡ true → tailLeft x (some q) ≡ x .tail
+owed-leaves-tail x q t = ap (λ (b : Bool). choose b (x .tail) (without 1 q (x .tail))) t
+
+-- 4. The two moves are made at phase b - 1 and at no other.
+abbrev written : State → Bool → Option ℕ
+written y t = choose t (fullest (y .sizes .b) (tailBytes y) (y .sizes .Q)) none
+
+abbrev readFrom : State → Bool → Option ℕ
+readFrom y t = choose t (refillQueue (headBytes y) (y .cells)) none
+
+pub move-writes-fullest : (y : State) → moves y ≡ true
+    → queueToWrite y ≡ fullest (y .sizes .b) (tailBytes y) (y .sizes .Q)
+move-writes-fullest y t = ap (written y) t
+
+pub no-move-no-write : (y : State) → moves y ≡ false → queueToWrite y ≡ none
+no-move-no-write y t = ap (written y) t
+
+pub move-reads-scan : (y : State) → moves y ≡ true → queueToRead y ≡ refillQueue (headBytes y) (y .cells)
+move-reads-scan y t = ap (readFrom y) t
+
+pub no-move-no-read : (y : State) → moves y ≡ false → queueToRead y ≡ none
+no-move-no-read y t = ap (readFrom y) t
+
+-- 7 comes only where the request would be Held and its queue has no byte in the tail, this slot's arrival counted;
+-- and there it does come.
+pub seven-only : (x : State) (arrival : Option Byte) (q : ℕ) → nothingToTake x arrival (some q) ≡ true
+    → (isOwed x q ≡ false) × (countOf q (x .tail ++ arriving arrival) ≡ 0)
+seven-only x arrival q e = (
+  not-true (isOwed x q) (and-left (not (isOwed x q)) _ e),
+  eqb-true (countOf q (x .tail ++ arriving arrival)) 0 (and-right (not (isOwed x q)) _ e),
+)
+
+pub seven-there : (x : State) (arrival : Option Byte) (q : ℕ) → isOwed x q ≡ false
+    → countOf q (x .tail ++ arriving arrival) ≡ 0 → nothingToTake x arrival (some q) ≡ true
+seven-there x arrival q t e = rw t (eq-eqb (countOf q (x .tail ++ arriving arrival)) 0 e)
+
+-- 5 comes exactly where the queue has no space left for the byte: its tail bytes and its blocks fill its K blocks.
+pub five-exactly : (x : State) (y : Byte)
+    → tailBytes x (y .queue) + x .sizes .b * blocks x (y .queue) ≤ x .sizes .K * x .sizes .b
+    → arrivalFull x (some y)
+    ≡ not (ltb (tailBytes x (y .queue) + x .sizes .b * blocks x (y .queue)) (x .sizes .K * x .sizes .b))
+five-exactly x y room =
+    by-test (ltb used all)
+    (λ t. rw t (ne-eqb used all (λ e. omega (arith, ltb-true used all t, e))))
+    (λ t. rw t (eq-eqb used all (omega (arith, ltb-false used all t))))
+  where
+    used : ℕ
+    used = tailBytes x (y .queue) + x .sizes .b * blocks x (y .queue)
+
+    all : ℕ
+    all = x .sizes .K * x .sizes .b

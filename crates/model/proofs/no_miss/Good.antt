@@ -1,0 +1,208 @@
+-- From a state that keeps the rules and the invariant, a slot is never refused with 8, 9 or 10, and leaves such a
+-- state: the oldest cell is covered, and with the invariant both fills are below their bounds. `refusal-low` and
+-- `form-good` say it.
+use mathlib.Core.Path.{_≡_, refl, sym, _∙_, subst}
+use mathlib.Core.Bool.{true, false, not}
+use mathlib.Core.List.{List}
+use mathlib.Core.Option.{Option, some, none}
+use Prim.Native.Nat.{ℕ, suc, _+_, _-_, _≤_}
+use native.Mathlib.Omega.{arith}
+use lib.Dec.{ltb}
+use lib.ListN.{length, length-append}
+use borrow.Author.Tests.{eqb-true, lt-leb, le-ltb}
+use Rattle.model.specs.Basics.{choose, when, All}
+use Rattle.model.specs.Sizes.{storeBytes, Sizes, Limits, accepts, span, lookahead, tailSize, headSize, full}
+use Rattle.model.specs.State.{keeps, Byte, State, fresh, ringOf}
+use Rattle.model.specs.Slot.{arrivalUnknown, arrivalFull, requestUnknown, nothingToTake, Call, afterDelivery}
+use Rattle.model.specs.Slot.{moves, queueToWrite, afterWrite, queueToRead, blockAt, bytesFor, headRead, afterRead}
+use Rattle.model.specs.Slot.{afterPhase, joined, asked, wrote, wroteStore, refilled, tailFull, headFull, refusal}
+use Rattle.model.specs.Slot.{Answer, accept}
+use Rattle.model.proofs.basics.AllOf.{_also_}
+use Rattle.model.proofs.basics.Tests.{by-test, none-not-some}
+use Rattle.model.proofs.basics.FirstRefusal.{low-refusal, when-le}
+use Rattle.model.proofs.basics.Bytes.{length-for}
+use Rattle.model.proofs.meaning.Steps.{move-writes-fullest, no-move-no-write, move-reads-scan, no-move-no-read}
+use Rattle.model.proofs.one_slot.Rules.{Rules, Keeps, keeps-fresh}
+use Rattle.model.proofs.one_slot.Accepted.{Judged, earlyRefusals, judged-facts}
+use Rattle.model.proofs.one_slot.Kept.{Kept, rules-2, rules-3, rules-written, rules-refilled, block-whole}
+use Rattle.model.proofs.one_slot.Kept.{accept-kept}
+use Rattle.model.proofs.one_slot.Calls.{AnswerForm, form-refused, form-accepted, form-kept}
+use Rattle.model.proofs.no_miss.Invariant.{Invariant, invariant-fresh, invariant-delivered, invariant-arrived}
+use Rattle.model.proofs.no_miss.Invariant.{invariant-asked, invariant-wrote, invariant-read, oldest-covered}
+use Rattle.model.proofs.no_miss.Invariant.{head-bounded}
+
+pub record Good (limits : Limits) (x : State) : Type 0 where
+  pub kept : Keeps (full limits) x
+  pub invariant : Invariant (x .phase) (x .phase) (x .phase) x
+
+pub good-fresh : (limits : Limits) (s : Sizes) → accepts limits s ≡ true → Good limits (fresh (full limits) s)
+good-fresh limits s e = record { kept = keeps-fresh (full limits) s e; invariant = invariant-fresh (full limits) s }
+
+-- A slot without the two moves changes nothing of the invariant in step 4, and step 5 none of it.
+wrote-none : (i j k : ℕ) (y : State) (o : Option ℕ) → o ≡ none → Invariant i j k y → Invariant i j k (afterWrite o y)
+wrote-none i j k y o e v =
+    subst (λ (p : Option ℕ). Invariant i j k (afterWrite p y)) (sym e)
+    (search v)
+
+read-none : (i j k : ℕ) (y : State) (store : List ℕ) (o : Option ℕ) → o ≡ none → Invariant i j k y
+    → Invariant i j k (afterRead o y store)
+read-none i j k y store o e v =
+    subst (λ (p : Option ℕ). Invariant i j k (afterRead p y store)) (sym e)
+    (search v)
+
+next-phase : (i : ℕ) (y : State) → choose (moves y) 0 (y .phase + 1) ≡ i → Invariant i i i y
+    → Invariant (afterPhase y .phase) (afterPhase y .phase) (afterPhase y .phase) (afterPhase y)
+next-phase i y e v =
+    subst (λ (p : ℕ). Invariant p p p (afterPhase y)) (sym e)
+    (search v)
+
+-- The invariant through a slot that refusals 2 to 9 let through.
+module _ (limits : Limits) (x : State) (store : List ℕ) (call : Call)
+    (good : Good limits x) (j : Judged (full limits) x store call) where
+  abbrev p : ℕ
+  p = x .phase
+
+  abbrev b : ℕ
+  b = x .sizes .b
+
+  abbrev y : State
+  y = asked x call
+
+  abbrev z : State
+  z = wrote x call
+
+  abbrev store′ : List ℕ
+  store′ = wroteStore x store call
+
+  cells-ok : 1 ≤ lookahead (x .sizes)
+  cells-ok = omega arith
+
+  b-positive : 1 ≤ b
+  b-positive = omega (arith, good .kept .phase-ok)
+
+  invariant-3 : Invariant (suc p) (suc p) (suc p) y
+  invariant-3 =
+      invariant-asked p (joined x call) (call .request) (j .request-ok) b-positive
+      (subst (λ (n : ℕ). Rules n (joined x call))
+      (let e : lookahead (x .sizes) - 1 ≡ span (x .sizes) = omega arith in e)
+      (rules-2 (full limits) x store call cells-ok j))
+      (invariant-arrived p (afterDelivery x) (call .arrival)
+      (invariant-delivered p x (good .kept .phase-ok) (j .covered) (good .invariant)))
+
+  module _ (t : moves x ≡ true) where
+    last-slot : suc p ≡ b
+    last-slot = omega (arith, eqb-true p (b - 1) t, b-positive)
+
+    invariant-moved-out : Invariant b b 0 z
+    invariant-moved-out =
+        invariant-wrote (lookahead (x .sizes)) y (queueToWrite y) (sym (move-writes-fullest y t))
+        (rules-3 (full limits) x store call cells-ok j)
+        (subst (λ (n : ℕ). Invariant n n n y) last-slot invariant-3)
+
+    invariant-moved : Invariant 0 0 0 (refilled x store call)
+    invariant-moved =
+        invariant-read (lookahead (x .sizes)) z store′ (queueToRead z) (sym (move-reads-scan z t))
+        (block-whole (full limits) x store call cells-ok j) b-positive
+        (rules-written (full limits) x store call cells-ok j) invariant-moved-out
+
+  -- 10 never comes: after the read the head is within its bound.
+  pub no-10 : headFull z (queueToRead z) ≡ false
+  no-10 = go (queueToRead z) refl
+    where
+      moving : (q : ℕ) → queueToRead z ≡ some q → moves x ≡ true
+      moving q e = by-test (moves x) (λ t. t) (λ t. absurd (none-not-some q (sym (no-move-no-read z t) ∙ e)))
+
+      go : (o : Option ℕ) → queueToRead z ≡ o → headFull z o ≡ false
+      go none e = refl
+      go (some q) e =
+          le-ltb (headSize (x .sizes)) (length (z .head) + b)
+          (omega (
+            arith,
+            length-append (z .head) (bytesFor q block),
+            length-for q block,
+            block-whole (full limits) x store call cells-ok j q e,
+            subst (λ (o : Option ℕ). length (headRead o z store′) ≤ lookahead (x .sizes) + span (x .sizes)) e bounded,
+          ))
+        where
+          block : List ℕ
+          block = blockAt (x .sizes) store′ q (ringOf (z .rings) q .first)
+
+          bounded : length (refilled x store call .head) ≤ lookahead (x .sizes) + span (x .sizes)
+          bounded =
+              head-bounded (lookahead (x .sizes)) 0 0 0 (refilled x store call)
+              (rules-refilled (full limits) x store call cells-ok j) (invariant-moved (moving q e))
+
+  invariant-next : Invariant (afterPhase (refilled x store call) .phase) (afterPhase (refilled x store call) .phase)
+      (afterPhase (refilled x store call) .phase) (afterPhase (refilled x store call))
+  invariant-next =
+      by-test (moves x)
+      (λ t. next-phase 0 (refilled x store call) (rw t) (invariant-moved t))
+      (λ t. next-phase (suc p) (refilled x store call) (rw t (let e : p + 1 ≡ suc p = omega arith in e))
+      (read-none (suc p) (suc p) (suc p) z store′ (queueToRead z) (no-move-no-read z t)
+      (wrote-none (suc p) (suc p) (suc p) y (queueToWrite y) (no-move-no-write y t) invariant-3)))
+
+  pub accept-good : Good limits (accept x store call .state)
+  accept-good = record {
+    kept = accept-kept (full limits) x store call cells-ok (record { judged = j; head-room = no-10 }) .kept;
+    invariant = invariant-next;
+  }
+
+-- Every refusal of a slot on a good state is 7 or lower.
+module _ (limits : Limits) (x : State) (store : List ℕ) (call : Call) (good : Good limits x) where
+  no-9 : (arrival : Option Byte) → tailFull x arrival ≡ false
+  no-9 none = refl
+  no-9 (some y) =
+      lt-leb (tailSize (x .sizes)) (length (x .tail)) (omega (arith, good .invariant .tail-light, good .kept .phase-ok))
+
+  -- Refusals 3, 2, 4, 5, 6 and 7 as they may be, 8 and 9 ruled out.
+  early-low : All (λ (n : ℕ). n ≤ 7) (earlyRefusals (full limits) x store call)
+  early-low =
+      when-le 7 (not (keeps (full limits) x)) 3 (omega arith)
+      also when-le 7 (ltb (length store) (storeBytes (x .sizes))) 2 (omega arith)
+      also when-le 7 (arrivalUnknown x (call .arrival)) 4 (omega arith)
+      also when-le 7 (arrivalFull x (call .arrival)) 5 (omega arith)
+      also when-le 7 (requestUnknown x (call .request)) 6 (omega arith)
+      also when-le 7 (nothingToTake x (call .arrival) (call .request)) 7 (omega arith)
+      also rw (oldest-covered (x .phase) x (good .kept .phase-ok) (good .invariant)) (omega arith)
+      also rw (no-9 (call .arrival)) (omega arith)
+      also tt
+
+  pub refusal-low : refusal (full limits) x store call ≤ 7
+  refusal-low =
+      low-refusal 7 (earlyRefusals (full limits) x store call)
+      (when (headFull (wrote x call) (queueToRead (wrote x call))) 10) early-low
+      (λ e. rw (no-10 limits x store call good (judged-facts (full limits) x store call e)))
+
+-- A call on a good state: its number, and the state that it leaves, whatever marks it chose.
+pub record GoodCall (limits : Limits) (x : State) (store : List ℕ) (a : Answer) : Type 0 where
+  pub good : Good limits (a .state)
+  pub low : a .number ≤ 7
+  pub same-sizes : a .state .sizes ≡ x .sizes
+  pub same-length : length (a .store) ≡ length store
+
+pub form-good : (limits : Limits) (x : State) (store : List ℕ) (call : Call) (a : Answer) → Good limits x
+    → AnswerForm (full limits) x store call a → GoodCall limits x store a
+form-good limits x store call a g (form-refused n e) = record {
+  good = g;
+  low = omega (arith, e, refusal-low limits x store call g);
+  same-sizes = refl;
+  same-length = refl;
+}
+form-good limits x store call a g (form-accepted m n f r) = record {
+  good = record {
+    kept = k .kept;
+    invariant = search v;
+  };
+  low = omega arith;
+  same-sizes = refl;
+  same-length = k .same-length;
+}
+  where
+    k : Kept (full limits) x store a
+    k = form-kept (full limits) x store call a (omega arith) (g .kept) (form-accepted m n f r)
+
+    next : State
+    next = accept x store call .state
+
+    v : Invariant (next .phase) (next .phase) (next .phase) next
+    v = accept-good limits x store call g (f .judged) .invariant

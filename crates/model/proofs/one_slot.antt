@@ -1,0 +1,10 @@
+-- A slot is refused whole, or accepted with none of the refusals; an accepted one keeps the rules and the store's
+-- length, and changes no byte outside the block that it writes. A list of slots is a chain of calls.
+pub mod Rules
+pub mod StepsKeepRules
+pub mod MovesKeepRules
+pub mod Accepted
+pub mod Kept
+pub mod Elsewhere
+pub mod Calls
+pub mod Lists

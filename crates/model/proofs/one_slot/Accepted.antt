@@ -1,0 +1,147 @@
+-- A slot is refused whole, or accepted with none of the refusals, since it answers the first of them and 0 where
+-- there is none: `outcome`. And what it tells of state, store and call that none of them holds: `accepted-facts`.
+use mathlib.Core.Path.{_≡_, refl, ap, sym, _∙_, subst}
+use mathlib.Core.Bool.{false, not}
+use mathlib.Core.List.{List, [], _∷_, _++_}
+use mathlib.Core.Option.{Option, some, none}
+use Prim.Native.Nat.{ℕ, zero, suc, _+_, _*_, _<_, _≤_}
+use native.Mathlib.Omega.{arith}
+use lib.ListN.{length, take, getD}
+use borrow.Author.Tests.{eqb-false, ne-eqb, leb-false, ltb-false, not-false}
+use Rattle.model.specs.Basics.{when, firstRefusal}
+use Rattle.model.specs.Sizes.{Design, tailSize, storeBytes}
+use Rattle.model.specs.State.{Byte, State, countOf, tailBytes, blocks, keeps}
+use Rattle.model.specs.Slot.{Call, arriving, isOwed, oldestCell, wrote, queueToRead, arrivalUnknown, arrivalFull}
+use Rattle.model.specs.Slot.{requestUnknown, nothingToTake, leavesUncovered, tailFull, headFull, refusals}
+use Rattle.model.specs.Slot.{refusal, Answer, accept, refuse, answer, slot}
+use Rattle.model.specs.Lists.{Step, stepOf, run, lastState, lastStore, accepted}
+use Rattle.model.proofs.basics.Tests.{by-zero, true-not-false}
+use Rattle.model.proofs.basics.FirstRefusal.{no-refusal-at, when-zero}
+use Rattle.model.proofs.meaning.Steps.{seven-there}
+use Rattle.model.proofs.one_slot.Rules.{Rules, Keeps, keeps-facts}
+use Rattle.model.proofs.one_slot.StepsKeepRules.{ArrivalTaken}
+
+-- Refusals 3, 2 and 4 to 9, all but 10.
+abbrev pub earlyRefusals : Design → State → List ℕ → Call → List ℕ
+earlyRefusals design x store call = take 8 (refusals design x store call)
+
+-- None of those: the state keeps the rules, the store is long enough, and arrival, request and delivery can be had.
+pub record Judged (design : Design) (x : State) (store : List ℕ) (call : Call) : Type 0 where
+  pub kept : Keeps design x
+  pub store-long : storeBytes (x .sizes) ≤ length store
+  pub arrival-ok : ArrivalTaken x (call .arrival)
+  pub request-ok : (q : ℕ) → call .request ≡ some q → q < x .sizes .Q
+  pub byte-there : (q : ℕ) → call .request ≡ some q → isOwed x q ≡ false → 1 ≤ countOf q
+      (x .tail ++ arriving (call .arrival))
+  pub covered : leavesUncovered (oldestCell (x .cells)) x ≡ false
+  pub tail-room : (y : Byte) → call .arrival ≡ some y → length (x .tail) < tailSize (x .sizes)
+
+-- And the head takes the block: the slot is accepted.
+pub record Accepted (design : Design) (x : State) (store : List ℕ) (call : Call) : Type 0 where
+  pub judged : Judged design x store call
+  pub head-room : headFull (wrote x call) (queueToRead (wrote x call)) ≡ false
+
+arrival-taken : (x : State) (arrival : Option Byte) → arrivalUnknown x arrival ≡ false → arrivalFull x arrival ≡ false
+    → (n : ℕ) → Rules n x → ArrivalTaken x arrival
+arrival-taken x none e f n v y s = absurd (let z : _≡_ {A = ℕ} 0 1 = cc in omega arith)
+arrival-taken x (some y) e f n v z s = subst Taken same
+    (below, omega (arith, v .room (y .queue) below, eqb-false used all f))
+  where
+    Taken : Byte → Type 0
+    Taken w =
+        (w .queue < x .sizes .Q)
+        × (tailBytes x (w .queue) + x .sizes .b * blocks x (w .queue) < x .sizes .K * x .sizes .b)
+
+    same : y ≡ z
+    same = cc
+
+    used : ℕ
+    used = tailBytes x (y .queue) + x .sizes .b * blocks x (y .queue)
+
+    all : ℕ
+    all = x .sizes .K * x .sizes .b
+
+    below : y .queue < x .sizes .Q
+    below = leb-false (x .sizes .Q) (y .queue) e
+
+request-known : (x : State) (request : Option ℕ) → requestUnknown x request ≡ false
+    → (q : ℕ) → request ≡ some q → q < x .sizes .Q
+request-known x request e q s = leb-false (x .sizes .Q) q (ap (requestUnknown x) (sym s) ∙ e)
+
+something-to-take : (x : State) (arrival : Option Byte) (request : Option ℕ) → nothingToTake x arrival request ≡ false
+    → (q : ℕ) → request ≡ some q → isOwed x q ≡ false → 1 ≤ countOf q (x .tail ++ arriving arrival)
+something-to-take x arrival request e q s t =
+    by-zero (countOf q (x .tail ++ arriving arrival))
+    (λ z. absurd (true-not-false (nothingToTake x arrival (some q)) (seven-there x arrival q t z)
+    (ap (nothingToTake x arrival) (sym s) ∙ e)))
+    (λ u. u)
+
+tail-takes : (x : State) (arrival : Option Byte) → tailFull x arrival ≡ false
+    → (y : Byte) → arrival ≡ some y → length (x .tail) < tailSize (x .sizes)
+tail-takes x arrival e y s = leb-false (tailSize (x .sizes)) (length (x .tail)) (ap (tailFull x) (sym s) ∙ e)
+
+module _ (design : Design) (x : State) (store : List ℕ) (call : Call) where
+  pub judged-facts : firstRefusal (earlyRefusals design x store call) ≡ 0 → Judged design x store call
+  judged-facts e = record {
+    kept = rules-kept;
+    store-long = ltb-false (length store) (storeBytes (x .sizes)) (when-zero _ 1 (none-at 1));
+    arrival-ok = arrival-taken x (call .arrival) (when-zero _ 3 (none-at 2)) (when-zero _ 4 (none-at 3)) _
+        (rules-kept .within);
+    request-ok = request-known x (call .request) (when-zero _ 5 (none-at 4));
+    byte-there = something-to-take x (call .arrival) (call .request) (when-zero _ 6 (none-at 5));
+    covered = when-zero _ 7 (none-at 6);
+    tail-room = tail-takes x (call .arrival) (when-zero _ 8 (none-at 7));
+  }
+    where
+      none-at : (i : ℕ) → getD (earlyRefusals design x store call) i 0 ≡ 0
+      none-at i = no-refusal-at (earlyRefusals design x store call) i e
+
+      rules-kept : Keeps design x
+      rules-kept = keeps-facts design x (not-false (keeps design x) (when-zero (not (keeps design x)) 2 (none-at 0)))
+
+  pub early-none : refusal design x store call ≡ 0 → firstRefusal (earlyRefusals design x store call) ≡ 0
+  early-none e = go (earlyRefusals design x store call)
+      (when (headFull (wrote x call) (queueToRead (wrote x call))) 10) e
+    where
+      go : (ns : List ℕ) (n : ℕ) → firstRefusal (ns ++ n ∷ []) ≡ 0 → firstRefusal ns ≡ 0
+      go [] n e = refl
+      go (zero ∷ ns) n e = go ns n e
+      go (suc m ∷ ns) n e = absurd (omega (arith, e))
+
+  pub accepted-facts : refusal design x store call ≡ 0 → Accepted design x store call
+  accepted-facts e = record {
+    judged = judged-facts (early-none e);
+    head-room = when-zero _ 9 (no-refusal-at (refusals design x store call) 8 e);
+  }
+
+-- A slot is one of the two.
+pub data RefusedOrAccepted (design : Design) (x : State) (store : List ℕ) (call : Call) : Answer → Type 0 where
+  was-refused : (n : ℕ) → refusal design x store call ≡ suc n → RefusedOrAccepted design x store call
+      (refuse (suc n) x store)
+  was-accepted : Accepted design x store call → RefusedOrAccepted design x store call (accept x store call)
+
+pub outcome : (design : Design) (x : State) (store : List ℕ) (call : Call)
+    → RefusedOrAccepted design x store call (slot design x store call)
+outcome design x store call = go (refusal design x store call) refl
+  where
+    go : (n : ℕ) → refusal design x store call ≡ n → RefusedOrAccepted design x store call (answer n x store call)
+    go zero e = was-accepted (accepted-facts design x store call e)
+    go (suc n) e = was-refused n e
+
+-- A list of which no slot is accepted leaves state and store as they came.
+abbrev LeftAsGiven : Design → State → List ℕ → State → List ℕ → List Call → Type 0
+LeftAsGiven design x store y left calls =
+    (lastState design y left calls ≡ x) × (lastStore design y left calls ≡ store)
+
+pub none-accepted : (design : Design) (x : State) (store : List ℕ) (calls : List Call)
+    → accepted (run design x store calls) ≡ [] → LeftAsGiven design x store x store calls
+none-accepted design x store [] e = (refl, refl)
+none-accepted design x store (call ∷ calls) e =
+    go (slot design x store call) (outcome design x store call) (none-accepted design x store calls) e
+  where
+    go : (a : Answer) → RefusedOrAccepted design x store call a
+        → (accepted (run design x store calls) ≡ [] → LeftAsGiven design x store x store calls)
+        → accepted (stepOf x store call a ∷ run design (a .state) (a .store) calls) ≡ []
+        → LeftAsGiven design x store (a .state) (a .store) calls
+    go a (was-refused n r) rest e = rest (rw (ne-eqb (suc n) 0 (λ z. omega arith)) at e)
+    go a (was-accepted f) rest e = absurd (let z : suc _ ≡ 0 = ap (length {A = Step}) e in omega (arith, z))

@@ -1,4 +1,4 @@
-//! Links the proved library, `../target/staticlib/libdrive.a`.
+//! Links the proved library, `../target/staticlib/libc_buffer.a`.
 
 use std::env;
 use std::path::Path;
@@ -7,11 +7,11 @@ fn main() {
     println!("cargo:rerun-if-changed=build.rs");
     let here = env::var("CARGO_MANIFEST_DIR").expect("cargo names the folder of the package");
     let folder = Path::new(&here).parent().expect("the folder lies in a repository").join("target/staticlib");
-    let library = folder.join("libdrive.a");
+    let library = folder.join("libc_buffer.a");
     println!("cargo:rerun-if-changed={}", library.display());
     if !library.exists() {
-        panic!("{} is not built: run `rt staticlib drive`", library.display());
+        panic!("{} is not built: run `rt staticlib c_buffer`", library.display());
     }
     println!("cargo:rustc-link-search=native={}", folder.display());
-    println!("cargo:rustc-link-lib=static=drive");
+    println!("cargo:rustc-link-lib=static=c_buffer");
 }

@@ -2,7 +2,9 @@
 
 pub mod library;
 pub mod natural;
+pub mod rough;
 pub mod traffic;
+pub mod words;
 
 /// The sizes of the table.
 pub const TABLE_SIZES: [Sizes; 3] = [Sizes::new(4, 3, 20), Sizes::new(16, 8, 8), Sizes::new(63, 33, 4)];
@@ -15,18 +17,18 @@ pub const MOST_QUEUES: usize = 64;
 pub struct Sizes {
     pub queues: usize,
     pub block: usize,
-    pub blocks: usize,
+    pub depth: usize,
 }
 
 impl Sizes {
-    pub const fn new(queues: usize, block: usize, blocks: usize) -> Sizes {
-        Sizes { queues, block, blocks }
+    pub const fn new(queues: usize, block: usize, depth: usize) -> Sizes {
+        Sizes { queues, block, depth }
     }
 
     pub fn accepted(self) -> bool {
         (1..=MOST_QUEUES).contains(&self.queues)
             && (1..=128).contains(&self.block)
-            && (1..=255).contains(&self.blocks)
+            && (1..=255).contains(&self.depth)
             && self.queues * (self.block - 1) <= 2016
     }
 
@@ -47,6 +49,6 @@ impl Sizes {
 
     /// Bytes of slow store that a slot asks for.
     pub fn store(self) -> usize {
-        self.queues * self.blocks * self.block
+        self.queues * self.depth * self.block
     }
 }

@@ -1,9 +1,7 @@
 //! The boundary to the proved library: its functions, safe to call.
 //!
 //! Each runs a whole list of slots from a fresh state of the sizes, and writes an answer word for each call.
-//! The words of calls are those of `traffic::call`. An answer word: bits 0 to 7 the delivered value, 8 to 15
-//! its queue, 16 whether there is a delivery, 17 to 24 the queue written, 25 whether one was, 26 to 33 the
-//! queue read, 34 whether one was, from bit 35 on the number of the refusal or 0.
+//! The words are those of `words`.
 
 use crate::Sizes;
 
@@ -39,7 +37,7 @@ pub fn run_then_idle(
         raw::drive_idle(
             sizes.queues,
             sizes.block,
-            sizes.blocks,
+            sizes.depth,
             calls.as_ptr(),
             calls.len(),
             answers.as_mut_ptr(),
@@ -63,7 +61,7 @@ fn drive(drive: Drive, sizes: Sizes, calls: &[u32], answers: &mut [u64], store: 
         drive(
             sizes.queues,
             sizes.block,
-            sizes.blocks,
+            sizes.depth,
             calls.as_ptr(),
             calls.len(),
             answers.as_mut_ptr(),
@@ -80,7 +78,7 @@ mod raw {
         pub fn drive_slots(
             queues: usize,
             block: usize,
-            blocks: usize,
+            depth: usize,
             calls: *const u32,
             calls_len: usize,
             answers: *mut u64,
@@ -91,7 +89,7 @@ mod raw {
         pub fn drive_steps(
             queues: usize,
             block: usize,
-            blocks: usize,
+            depth: usize,
             calls: *const u32,
             calls_len: usize,
             answers: *mut u64,
@@ -102,7 +100,7 @@ mod raw {
         pub fn drive_run(
             queues: usize,
             block: usize,
-            blocks: usize,
+            depth: usize,
             calls: *const u32,
             calls_len: usize,
             answers: *mut u64,
@@ -113,7 +111,7 @@ mod raw {
         pub fn drive_idle(
             queues: usize,
             block: usize,
-            blocks: usize,
+            depth: usize,
             calls: *const u32,
             calls_len: usize,
             answers: *mut u64,

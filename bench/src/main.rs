@@ -42,7 +42,7 @@ fn main() {
         println!("|---|---|---|--:|--:|--:|--:|");
     }
     for sizes in TABLE_SIZES {
-        let name = format!("{}, {}, {}", sizes.queues, sizes.block, sizes.blocks);
+        let name = format!("{}, {}, {}", sizes.queues, sizes.block, sizes.depth);
         let row = |traffic: &str, way: &str, slots: usize, (natural, proved): (f64, f64)| {
             let per_slot = |time: f64| figure(time / slots as f64);
             let ratio = figure(proved / natural);

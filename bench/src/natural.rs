@@ -4,7 +4,7 @@
 use std::collections::VecDeque;
 use std::hint::black_box;
 
-use crate::traffic::halves;
+use crate::words::{halves, Answer};
 use crate::{Sizes, MOST_QUEUES};
 
 /// A place of the lookahead: what comes out when it is the oldest.
@@ -38,15 +38,6 @@ pub struct Buffer {
     head_bytes: usize,
 }
 
-/// What a slot says: 0 or the number of its refusal, the queue and value delivered, the queues moved.
-#[derive(Default)]
-pub struct Answer {
-    pub number: u8,
-    pub delivery: Option<(u8, u8)>,
-    pub written: Option<u8>,
-    pub read: Option<u8>,
-}
-
 impl Buffer {
     /// A fresh buffer, or none where the sizes are refused.
     pub fn new(sizes: Sizes) -> Option<Buffer> {
@@ -71,7 +62,7 @@ impl Buffer {
         request: Option<u8>,
         store: &mut [u8],
     ) -> Result<Answer, u8> {
-        let Sizes { block, blocks, .. } = self.sizes;
+        let Sizes { block, depth, .. } = self.sizes;
 
         // Everything is judged before anything moves.
         if store.len() < self.sizes.store() {
@@ -79,7 +70,7 @@ impl Buffer {
         }
         if let Some((queue, _)) = arrival {
             let queue = self.queues.get(queue as usize).ok_or(4)?;
-            if queue.tail.len() + block * queue.blocks == blocks * block {
+            if queue.tail.len() + block * queue.blocks == depth * block {
                 return Err(5);
             }
         }
@@ -192,9 +183,9 @@ impl Buffer {
 
     /// The oldest tail bytes of a queue go to the next block of its ring.
     fn write(&mut self, number: u8, store: &mut [u8]) {
-        let Sizes { block, blocks, .. } = self.sizes;
+        let Sizes { block, depth, .. } = self.sizes;
         let queue = &mut self.queues[number as usize];
-        let at = (number as usize * blocks + (queue.first + queue.blocks) % blocks) * block;
+        let at = (number as usize * depth + (queue.first + queue.blocks) % depth) * block;
         for (place, value) in store[at..at + block].iter_mut().zip(queue.tail.drain(..block)) {
             *place = value;
         }
@@ -204,27 +195,13 @@ impl Buffer {
 
     /// The first block of a queue's ring goes to the head.
     fn read(&mut self, number: u8, store: &[u8]) {
-        let Sizes { block, blocks, .. } = self.sizes;
+        let Sizes { block, depth, .. } = self.sizes;
         let queue = &mut self.queues[number as usize];
-        let at = (number as usize * blocks + queue.first) * block;
+        let at = (number as usize * depth + queue.first) * block;
         queue.head.extend(&store[at..at + block]);
-        queue.first = (queue.first + 1) % blocks;
+        queue.first = (queue.first + 1) % depth;
         queue.blocks -= 1;
         self.head_bytes += block;
-    }
-}
-
-impl Answer {
-    /// The answer as one word, laid out as `library` says.
-    pub fn word(&self) -> u64 {
-        let (queue, value) = self.delivery.unwrap_or((0, 0));
-        let queue_and_mark = |queue: Option<u8>| queue.map_or(0, |queue| queue as u64 | 1 << 8);
-        value as u64
-            | (queue as u64) << 8
-            | (self.delivery.is_some() as u64) << 16
-            | queue_and_mark(self.written) << 17
-            | queue_and_mark(self.read) << 26
-            | (self.number as u64) << 35
     }
 }
 

@@ -1,22 +1,7 @@
 //! Lists of calls, one word for each slot, the same list for the same seed.
 
-use crate::natural::Buffer;
+use crate::words::call;
 use crate::Sizes;
-
-/// A call as one word: bits 0 to 7 the arriving value, 8 to 15 its queue, 16 whether there is an arrival,
-/// 17 to 24 the queue asked, 25 whether there is a request.
-pub fn call(arrival: Option<(u8, u8)>, request: Option<u8>) -> u32 {
-    let arrival = arrival.map_or(0, |(queue, value)| value as u32 | (queue as u32) << 8 | 1 << 16);
-    let request = request.map_or(0, |queue| (queue as u32) << 17 | 1 << 25);
-    arrival | request
-}
-
-/// The arrival (queue and value) and the request (queue) of a call.
-pub fn halves(call: u32) -> (Option<(u8, u8)>, Option<u8>) {
-    let arrival = (call >> 16 & 1 == 1).then_some(((call >> 8) as u8, call as u8));
-    let request = (call >> 25 & 1 == 1).then_some((call >> 17) as u8);
-    (arrival, request)
-}
 
 #[derive(Clone, Copy)]
 pub enum Traffic {
@@ -55,11 +40,11 @@ impl Traffic {
 
 /// Arrivals alone until a quarter of the store is full, then both halves in every slot.
 fn full(sizes: Sizes, slots: usize, random: &mut Random) -> Vec<u32> {
-    let Sizes { queues, block, blocks } = sizes;
+    let Sizes { queues, block, depth } = sizes;
     let warm_up = sizes.store() / 4;
     // Bytes of each queue that nobody has asked for, kept a block below the ring's size.
     let mut unasked = vec![0; queues];
-    let most = (blocks - 1) * block;
+    let most = (depth - 1) * block;
     let mut calls = Vec::with_capacity(slots);
     for slot in 0..slots {
         let arriving = search(queues, random.below(queues), |queue| unasked[queue] < most);
@@ -81,10 +66,10 @@ fn full(sizes: Sizes, slots: usize, random: &mut Random) -> Vec<u32> {
 
 /// Each queue is first filled to some random height, so that full and empty ones are met from the start.
 fn any(sizes: Sizes, slots: usize, random: &mut Random) -> Vec<u32> {
-    let Sizes { queues, block, blocks } = sizes;
+    let Sizes { queues, block, depth } = sizes;
     let mut calls = Vec::with_capacity(slots);
     for queue in 0..queues {
-        for _ in 0..random.below(blocks * block + 1) {
+        for _ in 0..random.below(depth * block + 1) {
             calls.push(call(Some((queue as u8, random.byte())), None));
         }
     }
@@ -106,50 +91,8 @@ pub fn prelude(sizes: Sizes) -> Vec<u32> {
     fill.chain(ask).collect()
 }
 
-/// Calls for tests: stretches of changing habits, from filling a few queues to emptying them. Most calls make
-/// sense, some are for any queue, and a few for a queue that does not exist.
-pub fn rough(sizes: Sizes, slots: usize, seed: u64) -> Vec<u32> {
-    let random = &mut Random(seed);
-    let Sizes { queues, block, blocks } = sizes;
-    let mut buffer = Buffer::new(sizes).expect("these sizes are accepted");
-    let mut store = vec![0; sizes.store()];
-    let mut unasked = vec![0; queues];
-    let mut calls = Vec::with_capacity(slots);
-    while calls.len() < slots {
-        // The chances of an arrival and of a request in percent, and the queues to begin a search at.
-        let habits = [(100, 0), (90, 30), (100, 100), (50, 50), (30, 90), (0, 100), (0, 0)];
-        let (arrivals, requests) = random.pick(&habits);
-        let first = random.below(queues);
-        let span = random.pick(&[1, 2, queues]);
-        for _ in 0..1 + random.below(sizes.lookahead() + 20) {
-            let mut queue = |makes_sense: &dyn Fn(usize) -> bool| match random.below(100) {
-                0 => Some(random.pick(&[queues, queues + 1, 255])),
-                1..=5 => Some(random.below(queues)),
-                _ => search(queues, (first + random.below(span)) % queues, makes_sense),
-            };
-            let arriving = queue(&|queue| unasked[queue] < blocks * block);
-            let asked = queue(&|queue| unasked[queue] > 0);
-            let arriving = arriving.filter(|_| random.percent(arrivals));
-            let asked = asked.filter(|_| random.percent(requests));
-            let arrival = arriving.map(|queue| (queue as u8, random.byte()));
-            let request = asked.map(|queue| queue as u8);
-            if buffer.slot(arrival, request, &mut store).number == 0 {
-                if let Some(queue) = arriving {
-                    unasked[queue] += 1;
-                }
-                if let Some(queue) = asked {
-                    unasked[queue] -= 1;
-                }
-            }
-            calls.push(call(arrival, request));
-        }
-    }
-    calls.truncate(slots);
-    calls
-}
-
 /// The first queue from `start` on, and round, that will do.
-fn search(queues: usize, start: usize, will_do: impl Fn(usize) -> bool) -> Option<usize> {
+pub fn search(queues: usize, start: usize, will_do: impl Fn(usize) -> bool) -> Option<usize> {
     (start..queues).chain(0..start).find(|&queue| will_do(queue))
 }
 

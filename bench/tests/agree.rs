@@ -2,7 +2,9 @@
 
 use bench::library::{self, Run};
 use bench::natural;
-use bench::traffic::{call, prelude, rough, Random, Traffic};
+use bench::rough::rough;
+use bench::traffic::{prelude, Random, Traffic};
+use bench::words::call;
 use bench::{Sizes, TABLE_SIZES};
 
 const WAYS: [(&str, Run); 3] = [("slots", library::slots), ("steps", library::steps), ("run", library::run)];
@@ -128,8 +130,8 @@ fn a_store_that_is_too_short() {
 fn sizes_that_are_refused() {
     let refused = [(0, 3, 20), (4, 0, 20), (4, 3, 0), (65, 1, 1), (1, 129, 1), (1, 1, 256), (64, 33, 1)];
     let wrapped = [(260, 3, 20), (4, 259, 20), (4, 3, 276), (4, (1 << 32) + 3, 20), (usize::MAX, 3, 20)];
-    for (queues, block, blocks) in refused.into_iter().chain(wrapped) {
-        let sizes = Sizes::new(queues, block, blocks);
+    for (queues, block, depth) in refused.into_iter().chain(wrapped) {
+        let sizes = Sizes::new(queues, block, depth);
         let calls = [call(Some((0, 1)), None); 10];
         let store = random_store(1000);
         for (way, run) in WAYS.into_iter().chain([("natural", natural::run as Run)]) {
@@ -202,8 +204,8 @@ fn request(queue: u8) -> u32 {
     call(None, Some(queue))
 }
 
-fn example(queues: usize, block: usize, blocks: usize, calls: &[u32]) -> Vec<u64> {
-    let sizes = Sizes::new(queues, block, blocks);
+fn example(queues: usize, block: usize, depth: usize, calls: &[u32]) -> Vec<u64> {
+    let sizes = Sizes::new(queues, block, depth);
     agree(sizes, calls, &vec![0; sizes.store()])
 }
 

@@ -1,0 +1,48 @@
+//! Lists of calls for tests, of which natural Rust tells which were taken.
+
+use crate::natural::Buffer;
+use crate::traffic::{search, Random};
+use crate::words::call;
+use crate::Sizes;
+
+/// Stretches of changing habits, from filling a few queues to emptying them. Most calls make
+/// sense, some are for any queue, and a few for a queue that does not exist.
+pub fn rough(sizes: Sizes, slots: usize, seed: u64) -> Vec<u32> {
+    let random = &mut Random(seed);
+    let Sizes { queues, block, depth } = sizes;
+    let mut buffer = Buffer::new(sizes).expect("these sizes are accepted");
+    let mut store = vec![0; sizes.store()];
+    let mut unasked = vec![0; queues];
+    let mut calls = Vec::with_capacity(slots);
+    while calls.len() < slots {
+        // The chances of an arrival and of a request in percent, and the queues to begin a search at.
+        let habits = [(100, 0), (90, 30), (100, 100), (50, 50), (30, 90), (0, 100), (0, 0)];
+        let (arrivals, requests) = random.pick(&habits);
+        let first = random.below(queues);
+        let span = random.pick(&[1, 2, queues]);
+        for _ in 0..1 + random.below(sizes.lookahead() + 20) {
+            let mut queue = |makes_sense: &dyn Fn(usize) -> bool| match random.below(100) {
+                0 => Some(random.pick(&[queues, queues + 1, 255])),
+                1..=5 => Some(random.below(queues)),
+                _ => search(queues, (first + random.below(span)) % queues, makes_sense),
+            };
+            let arriving = queue(&|queue| unasked[queue] < depth * block);
+            let asked = queue(&|queue| unasked[queue] > 0);
+            let arriving = arriving.filter(|_| random.percent(arrivals));
+            let asked = asked.filter(|_| random.percent(requests));
+            let arrival = arriving.map(|queue| (queue as u8, random.byte()));
+            let request = asked.map(|queue| queue as u8);
+            if buffer.slot(arrival, request, &mut store).number == 0 {
+                if let Some(queue) = arriving {
+                    unasked[queue] += 1;
+                }
+                if let Some(queue) = asked {
+                    unasked[queue] -= 1;
+                }
+            }
+            calls.push(call(arrival, request));
+        }
+    }
+    calls.truncate(slots);
+    calls
+}

@@ -14,4 +14,6 @@ pub mod script;
 pub mod sizes;
 pub mod sizing;
 #[cfg(test)]
+mod drawn;
+#[cfg(test)]
 mod tests;

@@ -1,0 +1,2 @@
+-- The proofs of the sizing functions for C.
+pub mod Answers

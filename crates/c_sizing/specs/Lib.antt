@@ -1,0 +1,2 @@
+-- What the sizing functions for C promise.
+pub mod Says

@@ -1,0 +1,48 @@
+// The sizing rule and the memories that sizes need, for C and Rust callers: plain numbers in and out.
+ghost use mathlib.Core.Path.{_≡_};
+ghost use Rattle.c_sizing.specs.Says.{blockOrNone, memoriesOrNone};
+use sizing::Derived;
+use sizing::Sizing;
+
+// The memories of a line card in bytes, the lookahead in cells; all 0 where the sizes are refused.
+#[repr(C)]
+pub struct Memories {
+    pub lookahead: usize,
+    pub tail: usize,
+    pub head: usize,
+    pub store: usize,
+}
+
+// The bytes of a block at `rate` Gb/s and a memory grade; 0 where the rule refuses them.
+#[no_mangle]
+pub extern "C" fn sizing_block(rate: usize, grade: usize) -> usize
+    ensures { λ r. ⌜ r ≡ blockOrNone rate grade ⌝ }
+{
+    let sized = sizing::block_size(rate, grade);
+    match sized {
+        Sizing::Block(b) => b as usize,
+        Sizing::NoBlock => 0,
+    }
+}
+
+// What sizes need.
+#[no_mangle]
+pub extern "C" fn sizing_memories(queues: usize, block: usize, depth: usize) -> Memories
+    ensures { λ r. ⌜ r ≡ memoriesOrNone queues block depth ⌝ }
+{
+    let derived = sizing::memory_sizes(queues, block, depth);
+    match derived {
+        Derived::Needs(memory) => Memories {
+            lookahead: memory.lookahead,
+            tail: memory.tail,
+            head: memory.head,
+            store: memory.store,
+        },
+        Derived::NoSizes => Memories {
+            lookahead: 0,
+            tail: 0,
+            head: 0,
+            store: 0,
+        },
+    }
+}

@@ -1,0 +1,2 @@
+-- The proofs of the slots by their steps.
+pub mod Drawn

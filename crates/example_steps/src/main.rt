@@ -1,0 +1,61 @@
+// The same nine slots, each by its six steps in turn: a step is told by the state that the one before it left.
+ghost use mathlib.Core.Path.{_≡_};
+ghost use Rattle.model.specs.Sizes.{paper};
+ghost use Rattle.model.specs.Slot.{refusal, slot};
+ghost use Rattle.layout.specs.Calls.{callIn};
+ghost use Rattle.buffer.specs.Says.{stateOf};
+use buffer::State;
+use layout::Arrival;
+use layout::Request;
+
+// One slot, which the caller knows not to be refused: prints what it moved, and hands its state on.
+fn in_steps(t: u64, state: State, arrival: Arrival, request: Request, store: &mut [u8]) -> State
+    requires { ⌜ refusal paper (stateOf state) (now store) (callIn arrival request) ≡ 0 ⌝ }
+    ensures { λ r. ⌜ (stateOf r ≡ slot paper (stateOf state) (now (store .entry)) (callIn arrival request) .state)
+        × (now (store .exit) ≡ slot paper (stateOf state) (now (store .entry)) (callIn arrival request) .store) ⌝ }
+{
+    // 1. The oldest cell leaves.
+    let first = state.deliver();
+    let delivery = first.delivery;
+    let delivered = first.state;
+    // 2. The arriving byte joins the tail.
+    let arrived = delivered.arrive(arrival);
+    // 3. The request takes the youngest cell.
+    let owing = buffer_choices::owes_request(arrived, request);
+    let asked = arrived.ask(owing, request);
+    // 4. First a write, then a read, if the phase is b - 1.
+    let written = buffer_choices::to_write(asked);
+    let wrote = asked.write(written, store);
+    let read = buffer_choices::to_read(wrote);
+    let refilled = wrote.read(read, store);
+    example_print::moves(t, delivery, written, read);
+    // 5. The phase rises by one.
+    refilled.turn()
+}
+
+fn main() {
+    let mut store = [0u8; 16];
+    let made = State::make(2, 2, 4);
+    let fresh = made.state;
+    let s0 = in_steps(
+        0,
+        fresh,
+        Arrival::Comes(0, b'a'),
+        Request::NoRequest,
+        &mut store,
+    );
+    let s1 = in_steps(
+        1,
+        s0,
+        Arrival::Comes(0, b'b'),
+        Request::NoRequest,
+        &mut store,
+    );
+    let s2 = in_steps(2, s1, Arrival::Comes(1, b'x'), Request::Asks(0), &mut store);
+    let s3 = in_steps(3, s2, Arrival::Comes(1, b'y'), Request::Asks(1), &mut store);
+    let s4 = in_steps(4, s3, Arrival::NoArrival, Request::Asks(0), &mut store);
+    let s5 = in_steps(5, s4, Arrival::NoArrival, Request::Asks(1), &mut store);
+    let s6 = in_steps(6, s5, Arrival::NoArrival, Request::NoRequest, &mut store);
+    let s7 = in_steps(7, s6, Arrival::NoArrival, Request::NoRequest, &mut store);
+    in_steps(8, s7, Arrival::NoArrival, Request::NoRequest, &mut store);
+}

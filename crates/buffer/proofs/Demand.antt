@@ -9,7 +9,7 @@ use Rattle.model.specs.State.{State, fresh}
 use Rattle.model.specs.Slot.{Call}
 use Rattle.model.specs.Lists.{Chain, no-call, next-call, stepsOf}
 use Rattle.model.specs.Demand.{ListMeets}
-use Rattle.model.proofs.Rules.{made-accepted}
+use Rattle.model.proofs.one_slot.Rules.{made-accepted}
 use Rattle.model.proofs.Demand.{demand-3}
 use Rattle.buffer.specs.declared.State as code
 use Rattle.buffer.specs.Says.{stateOf}

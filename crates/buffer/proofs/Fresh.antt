@@ -5,16 +5,17 @@ use mathlib.Core.List.{_∷_}
 use Prim.Native.Nat.{ℕ, zero, suc, _≤_}
 use native.Mathlib.Omega.{arith}
 use lib.ListN.{getD, replicate}
-use Rattle.model.specs.Words.{choose, when, tabulate}
+use Rattle.model.specs.Basics.{choose, when, tabulate}
 use Rattle.model.specs.Sizes.{sizes, paperLimits, accepts, paper, lookahead}
 use Rattle.model.specs.State.{empty, ring, fresh}
-use Rattle.model.proofs.Words.{true-not-false}
-use Rattle.caches.proofs.Entries.{bytes-none}
-use Rattle.caches.proofs.Counts.{counts-zero}
-use Rattle.lookahead.specs.Views.{cellFor, cellOf, cellsIn}
-use Rattle.parts.specs.Views.{ringsIn}
-use Rattle.parts.proofs.Ranges.{in-limits}
-use Rattle.parts.proofs.States.{same-state}
+use Rattle.model.proofs.basics.Tests.{true-not-false}
+use Rattle.layout.specs.Lengths.{tailPlaces, headPlaces, cellPlaces, queuePlaces}
+use Rattle.layout.proofs.Entries.{bytes-none}
+use Rattle.layout.proofs.Counts.{counts-zero}
+use Rattle.layout.specs.Entries.{cellFor, cellOf, cellsIn}
+use Rattle.layout.specs.Views.{ringsIn}
+use Rattle.layout.proofs.Ranges.{in-limits}
+use Rattle.layout.proofs.States.{same-state}
 use Rattle.buffer.specs.declared.State as code
 use Rattle.buffer.specs.declared.Made.{Made}
 use Rattle.buffer.specs.Says.{stateOf, freshState, MakeSays}
@@ -50,9 +51,9 @@ zero-rings n k =
 pub fresh-state : (q b k : ℕ) → accepts paperLimits (sizes q b k) ≡ true
     → stateOf (freshState q b k) ≡ fresh paper (sizes q b k)
 fresh-state q b k e =
-    same-state (sizes q b k) refl (bytes-none (replicate 2144 0)) (bytes-none (replicate 4034 0))
-    (zero-cells (lookahead (sizes q b k)) 2017 (omega (arith, in-limits (freshState q b k .small) e .span-high)))
-    (zero-rings q 64)
+    same-state (sizes q b k) refl (bytes-none (replicate tailPlaces 0)) (bytes-none (replicate headPlaces 0))
+    (zero-cells (lookahead (sizes q b k)) cellPlaces (omega (arith, in-limits (freshState q b k .regs) e .span-high)))
+    (zero-rings q queuePlaces)
     refl refl
 
 -- What making gives with sizes that are accepted, and with any other.
@@ -62,7 +63,7 @@ made-fresh q b k r e n s = record {
   number-is = n ∙ sym (ap (λ (t : Bool). when (not t) 1) e);
   record-is = s ∙ sym (ap (λ (t : Bool). choose t (freshState q b k) (freshState 0 0 0)) e);
   fresh-is = λ f. ap stateOf s ∙ fresh-state q b k f;
-  cells-empty = λ i l. ap (λ (z : code.State). cellOf (getD (z .cells) i 0)) s ∙ empty-at 2017 i;
+  cells-empty = λ i l. ap (λ (z : code.State). cellOf (getD (z .cells) i 0)) s ∙ empty-at cellPlaces i;
 }
 
 pub made-none : (q b k : ℕ) (r : Made) → accepts paperLimits (sizes q b k) ≡ false
@@ -71,5 +72,5 @@ made-none q b k r e n s = record {
   number-is = n ∙ sym (ap (λ (t : Bool). when (not t) 1) e);
   record-is = s ∙ sym (ap (λ (t : Bool). choose t (freshState q b k) (freshState 0 0 0)) e);
   fresh-is = λ f. absurd (true-not-false (accepts paperLimits (sizes q b k)) f e);
-  cells-empty = λ i l. ap (λ (z : code.State). cellOf (getD (z .cells) i 0)) s ∙ empty-at 2017 i;
+  cells-empty = λ i l. ap (λ (z : code.State). cellOf (getD (z .cells) i 0)) s ∙ empty-at cellPlaces i;
 }

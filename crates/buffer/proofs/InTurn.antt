@@ -12,16 +12,17 @@ use Rattle.model.specs.State.{Byte, empty, State, tailBytes, blocks}
 use Rattle.model.specs.Slot.{Call, oldestCell, afterDelivery, afterArrival, isOwed, afterRequest}
 use Rattle.model.specs.Slot.{queueToWrite, afterWrite, storeWritten, queueToRead, afterRead, afterPhase, joined, asked}
 use Rattle.model.specs.Slot.{wrote, wroteStore, refilled, accept}
-use Rattle.model.proofs.Limits.{within-limits}
-use Rattle.model.proofs.Rings.{fewer-blocks}
-use Rattle.model.proofs.Rules.{Rules, length-tail-left}
-use Rattle.model.proofs.Accepted.{Judged, Accepted}
-use Rattle.model.proofs.Kept.{length-head-without, length-tail-written, tail-joined, write-taken, read-taken}
-use Rattle.model.proofs.Kept.{rules-3, rules-written, still-long}
-use Rattle.model.proofs.IdealSlot.{held-before}
-use Rattle.parts.proofs.States.{same-state}
-use Rattle.buffer.specs.Moves.{opened, closed, Fits, DeliverAsks, AskAsks, WriteAsks, ReadAsks}
-use Rattle.buffer.proofs.Steps.{without-last}
+use Rattle.model.proofs.basics.Limits.{within-limits}
+use Rattle.model.proofs.basics.Rings.{fewer-blocks}
+use Rattle.model.proofs.one_slot.Rules.{Rules}
+use Rattle.model.proofs.one_slot.StepsKeepRules.{length-tail-left}
+use Rattle.model.proofs.one_slot.Accepted.{Judged, Accepted}
+use Rattle.model.proofs.one_slot.Kept.{length-head-without, length-tail-written, tail-joined, write-taken, read-taken}
+use Rattle.model.proofs.one_slot.Kept.{rules-3, rules-written, still-long}
+use Rattle.model.proofs.delay.IdealSlot.{held-before}
+use Rattle.layout.proofs.States.{same-state}
+use Rattle.buffer.specs.OneStep.{opened, closed, CachesFit, DeliverAsks, AskAsks, WriteAsks, ReadAsks}
+use Rattle.buffer.proofs.OneStep.{without-last}
 
 -- The empty cell that comes in as the oldest leaves is the one that the request takes.
 pub opened-closed : (x : State) (arrival : Option Byte)
@@ -97,7 +98,7 @@ module _ (x : State) (store : List ℕ) (call : Call) where
       covered = j .covered;
     }
 
-    pub arrive-can : Fits (opened x)
+    pub arrive-can : CachesFit (opened x)
     arrive-can = record {
       sizes-ok = j .kept .sizes-ok;
       tail-fits = j .kept .tail-fits;

@@ -11,15 +11,15 @@ use Rattle.model.specs.Sizes.{paper}
 use Rattle.model.specs.State.{State, keeps, SameButMarks}
 use Rattle.model.specs.Slot.{Call, Answer, slot}
 use Rattle.model.specs.Lists.{Promised}
-use Rattle.model.proofs.Words.{by-zero}
-use Rattle.model.proofs.Rules.{Keeps, keeps-facts}
-use Rattle.model.proofs.Accepted.{Outcome, was-refused, was-accepted, outcome}
-use Rattle.model.proofs.Kept.{Kept, slot-kept}
-use Rattle.model.proofs.Calls.{slot-promised}
-use Rattle.parts.specs.declared.Small.{Small}
-use Rattle.parts.specs.Views.{Arrays}
-use Rattle.slot.specs.declared.Advanced.{Advanced}
-use Rattle.checked.specs.Says as checked
+use Rattle.model.proofs.basics.Tests.{by-zero}
+use Rattle.model.proofs.one_slot.Rules.{Keeps, keeps-facts}
+use Rattle.model.proofs.one_slot.Accepted.{RefusedOrAccepted, was-refused, was-accepted, outcome}
+use Rattle.model.proofs.one_slot.Kept.{Kept, slot-kept}
+use Rattle.model.proofs.one_slot.Calls.{slot-promised}
+use Rattle.layout.specs.declared.Regs.{Regs}
+use Rattle.layout.specs.Views.{Arrays}
+use Rattle.slot_in_place.specs.declared.Advanced.{Advanced}
+use Rattle.slot_checked.specs.Says as checked
 use Rattle.buffer.specs.declared.State as code
 use Rattle.buffer.specs.declared.Slotted.{Slotted}
 use Rattle.buffer.specs.Says.{stateOf, arraysOf, SlotSays, StepSays}
@@ -36,7 +36,7 @@ pub untouched : (x : State) (store : List ℕ) (call : Call) → (slot paper x s
     → Untouched x store (slot paper x store call)
 untouched x store call f = go (slot paper x store call) (outcome paper x store call) f
   where
-    go : (a : Answer) → Outcome paper x store call a → (a .number ≡ 0 → ⊥) → Untouched x store a
+    go : (a : Answer) → RefusedOrAccepted paper x store call a → (a .number ≡ 0 → ⊥) → Untouched x store a
     go a (was-refused n e) g = record
         { no-delivery = refl; no-write = refl; no-read = refl; same-state = refl; same-store = refl }
     go a (was-accepted e) g = absurd (g refl)
@@ -54,7 +54,7 @@ same-but-marks q = record {
 accepted-keeps : (x : State) (store : List ℕ) (call : Call) → slot paper x store call .number ≡ 0 → Keeps paper x
 accepted-keeps x store call z = go (slot paper x store call) (outcome paper x store call) z
   where
-    go : (a : Answer) → Outcome paper x store call a → a .number ≡ 0 → Keeps paper x
+    go : (a : Answer) → RefusedOrAccepted paper x store call a → a .number ≡ 0 → Keeps paper x
     go a (was-refused n e) z = absurd (omega (arith, z))
     go a (was-accepted f) z = f .judged .kept
 
@@ -74,36 +74,36 @@ slot-promised-any x store call =
       as-given = λ f. u .same-state;
     })
 
--- The record that small numbers and five arrays make, and the answer that a slot on them makes with it.
-abbrev pub stateFrom : Small → Arrays → code.State
-stateFrom small m = record {
-  small = small;
+-- The record that registers and five arrays make, and the answer that a slot on them makes with it.
+abbrev pub stateFrom : Regs → Arrays → code.State
+stateFrom regs m = record {
+  regs = regs;
   tail = m .tail;
   head = m .head;
   cells = m .cells;
   firsts = m .firsts;
-  counts = m .counts;
+  stored = m .stored;
 }
 
 abbrev slottedFrom : Advanced → Arrays → Slotted
 slottedFrom a m = record {
-  state = stateFrom (a .small) m;
+  state = stateFrom (a .regs) m;
   number = a .number;
   delivery = a .delivery;
   written = a .written;
   read = a .read;
 }
 
-module _ (s : code.State) (store : List ℕ) (call : Call) (a : Advanced) (m : Arrays) (store′ : List ℕ)
-    (v : checked.SlotSays (s .small) (arraysOf s) store call a m store′) where
+module _ {s : code.State} {store : List ℕ} {call : Call} {a : Advanced} {m : Arrays} {store′ : List ℕ}
+    (v : checked.CheckedSays (s .regs) (arraysOf s) store call a m store′) where
   -- A slot by value, accepted or refused.
   pub slot-says : SlotSays s store call (slottedFrom a m) store′
   slot-says = record {
     promised = subst (Promised paper (stateOf s) store call) (sym (v .answer-is))
         (slot-promised-any (stateOf s) store call);
     as-given = λ f.
-        ap (λ (small : Small). stateFrom small m) (v .as-given f .0)
-        ∙ ap (stateFrom (s .small)) (v .as-given f .1);
+        ap (λ (regs : Regs). stateFrom regs m) (v .as-given f .0)
+        ∙ ap (stateFrom (s .regs)) (v .as-given f .1);
   }
 
   -- The same where the rules are kept.

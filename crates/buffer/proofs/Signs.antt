@@ -8,9 +8,9 @@ use lib.IntN.{ℤ, pos, negsuc, _-ℤ_}
 use lib.Signed.{mag, ltZ}
 use borrow.Author.Tests.{ltb-true, ltb-false, lt-ltb, le-ltb}
 use Rattle.model.specs.State.{State, headBytes, owedCells, margin}
-use Rattle.model.proofs.Words.{by-test, true-not-false}
-use Rattle.model.proofs.Margin.{critical-is}
-use Rattle.buffer.specs.Moves.{MarginSays}
+use Rattle.model.proofs.basics.Tests.{by-test, true-not-false}
+use Rattle.model.proofs.meaning.Margin.{critical-is}
+use Rattle.buffer.specs.OneStep.{MarginSays}
 
 -- At or above zero, and below.
 pub difference-up : (h o : ℕ) → o ≤ h → pos h -ℤ pos o ≡ pos (h - o)

@@ -4,44 +4,44 @@ use mathlib.Core.Bool.{true}
 use mathlib.Core.List.{List}
 use Prim.Native.Nat.{ℕ, _<_}
 use lib.ListN.{length, getD, replicate}
-use Rattle.model.specs.Words.{choose}
+use Rattle.model.specs.Basics.{choose}
 use Rattle.model.specs.Sizes.{sizes, paperLimits, accepts, paper}
 use Rattle.model.specs.State.{State, empty, fresh, makingNumber, keeps}
 use Rattle.model.specs.Slot.{Call, Answer}
 use Rattle.model.specs.Lists.{Promised}
-use Rattle.caches.specs.Says.{chosenIn}
-use Rattle.lookahead.specs.Views.{cellOf}
-use Rattle.parts.specs.Calls.{deliveryIn}
-use Rattle.parts.specs.Views.{Arrays, arrays, stateIn}
+use Rattle.layout.specs.Lengths.{tailPlaces, headPlaces, cellPlaces, queuePlaces}
+use Rattle.layout.specs.Calls.{chosenIn, deliveryIn}
+use Rattle.layout.specs.Entries.{cellOf}
+use Rattle.layout.specs.Views.{Arrays, arrays, stateIn}
 use Rattle.buffer.specs.declared.State as code
 use Rattle.buffer.specs.declared.Made.{Made}
 use Rattle.buffer.specs.declared.Slotted.{Slotted}
 
 -- The state of the paper that a record holds. "Places past a fill or past cell L are no part of the state."
 abbrev pub arraysOf : code.State → Arrays
-arraysOf s = arrays (s .tail) (s .head) (s .cells) (s .firsts) (s .counts)
+arraysOf s = arrays (s .tail) (s .head) (s .cells) (s .firsts) (s .stored)
 
 abbrev pub stateOf : code.State → State
-stateOf s = stateIn (s .small) (arraysOf s)
+stateOf s = stateIn (s .regs) (arraysOf s)
 
 -- A fresh record, every field of it.
 abbrev pub freshState : ℕ → ℕ → ℕ → code.State
 freshState q b k = record {
-  small = record {
+  regs = record {
     queues = q;
     block = b;
-    blocks = k;
+    depth = k;
     phase = 0;
     «tail_fill» = 0;
     «head_fill» = 0;
     «tail_mark» = 0;
     «head_mark» = 0;
   };
-  tail = replicate 2144 0;
-  head = replicate 4034 0;
-  cells = replicate 2017 0;
-  firsts = replicate 64 0;
-  counts = replicate 64 0;
+  tail = replicate tailPlaces 0;
+  head = replicate headPlaces 0;
+  cells = replicate cellPlaces 0;
+  firsts = replicate queuePlaces 0;
+  stored = replicate queuePlaces 0;
 }
 
 -- "A making of a state checks 1 only." Accepted sizes give the fresh state, the paper's and the record itself, every
@@ -51,7 +51,7 @@ pub record MakeSays (q b k : ℕ) (r : Made) : Type 0 where
   pub number-is : r .number ≡ makingNumber paper (sizes q b k)
   pub record-is : r .state ≡ choose (accepts paperLimits (sizes q b k)) (freshState q b k) (freshState 0 0 0)
   pub fresh-is : accepts paperLimits (sizes q b k) ≡ true → stateOf (r .state) ≡ fresh paper (sizes q b k)
-  pub cells-empty : (i : ℕ) → i < 2017 → cellOf (getD (r .state .cells) i 0) ≡ empty
+  pub cells-empty : (i : ℕ) → i < cellPlaces → cellOf (getD (r .state .cells) i 0) ≡ empty
 
 -- A slot's answer in the model's terms.
 abbrev pub answerOf : Slotted → List ℕ → Answer

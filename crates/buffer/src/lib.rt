@@ -5,32 +5,38 @@ ghost use Prim.Native.Nat.{_≤_};
 ghost use lib.ListN.{length};
 ghost use Rattle.model.specs.Sizes.{paper, storeBytes};
 ghost use Rattle.model.specs.State.{keeps};
-ghost use Rattle.parts.specs.Calls.{callIn};
-ghost use Rattle.parts.specs.Views.{sizesIn};
+ghost use Rattle.layout.specs.Calls.{callIn};
+ghost use Rattle.layout.specs.Views.{sizesIn};
 ghost use Rattle.buffer.specs.Demand.{CallsMeet};
 ghost use Rattle.buffer.specs.Says.{stateOf, freshState, MakeSays, SlotSays, StepSays};
-use caches::Chosen;
-use parts::Arrival;
-use parts::Delivery;
-use parts::Request;
-use parts::Small;
+use layout::Arrival;
+use layout::CELL_PLACES;
+use layout::CellArray;
+use layout::Chosen;
+use layout::Delivery;
+use layout::EMPTY;
+use layout::HEAD_PLACES;
+use layout::HeadArray;
+use layout::QUEUE_PLACES;
+use layout::Regs;
+use layout::Request;
+use layout::RingArray;
+use layout::TAIL_PLACES;
+use layout::TailArray;
 
 mod margin;
-pub mod moves;
-
-// An empty cell.
-const EMPTY: u32 = 0;
+pub mod steps;
 
 // "The state is one record that carries its caches and lookahead inside it": a byte of a cache is queue × 256 +
 // value, a cell is kind × 65,536 + queue × 256 + value, and for each queue there is its first ring block and its
 // block count.
 pub struct State {
-    pub small: Small,
-    pub tail: [u16; 2144],
-    pub head: [u16; 4034],
-    pub cells: [u32; 2017],
-    pub firsts: [u8; 64],
-    pub counts: [u8; 64],
+    pub regs: Regs,
+    pub tail: TailArray,
+    pub head: HeadArray,
+    pub cells: CellArray,
+    pub firsts: RingArray,
+    pub stored: RingArray,
 }
 
 // A making's answer: the paper's number, 0 or 1, and the state, which is a fixed one where the sizes were refused.
@@ -50,34 +56,34 @@ pub struct Slotted {
 
 impl State {
     // All cells empty from the start, empty caches and rings, first block 0, phase 0, marks 0.
-    fn fresh(queues: usize, block: usize, blocks: usize) -> State
-        ensures { λ r. ⌜ r ≡ freshState queues block blocks ⌝ }
+    fn fresh(queues: usize, block: usize, depth: usize) -> State
+        ensures { λ r. ⌜ r ≡ freshState queues block depth ⌝ }
     {
         State {
-            small: Small {
+            regs: Regs {
                 queues: queues,
                 block: block,
-                blocks: blocks,
+                depth: depth,
                 phase: 0,
                 tail_fill: 0,
                 head_fill: 0,
                 tail_mark: 0,
                 head_mark: 0,
             },
-            tail: [0; 2144],
-            head: [0; 4034],
-            cells: [EMPTY; 2017],
-            firsts: [0; 64],
-            counts: [0; 64],
+            tail: [0; TAIL_PLACES],
+            head: [0; HEAD_PLACES],
+            cells: [EMPTY; CELL_PLACES],
+            firsts: [0; QUEUE_PLACES],
+            stored: [0; QUEUE_PLACES],
         }
     }
 
     // A state of these sizes, or refusal 1.
-    pub fn make(queues: usize, block: usize, blocks: usize) -> Made
-        ensures { λ r. ⌜ MakeSays queues block blocks r ⌝ }
+    pub fn make(queues: usize, block: usize, depth: usize) -> Made
+        ensures { λ r. ⌜ MakeSays queues block depth r ⌝ }
     {
-        if sizing::accepted(queues, block, blocks) {
-            let state = State::fresh(queues, block, blocks);
+        if sizing::accepted(queues, block, depth) {
+            let state = State::fresh(queues, block, depth);
             return Made {
                 state: state,
                 number: 0,
@@ -92,39 +98,39 @@ impl State {
 
     // One slot of a state that keeps the rules, with a store that is long enough: for a caller that knows both.
     pub fn step(self, arrival: Arrival, request: Request, store: &mut [u8]) -> Slotted
-        requires { ⌜ (keeps paper (stateOf self) ≡ true) × (storeBytes (sizesIn (self .small)) ≤ length (now store)) ⌝ }
+        requires { ⌜ (keeps paper (stateOf self) ≡ true) × (storeBytes (sizesIn (self .regs)) ≤ length (now store)) ⌝ }
         ensures { λ r. ⌜ StepSays self (now (store .entry)) (callIn arrival request) r (now (store .exit)) ⌝ }
     {
-        let small = self.small;
+        let regs = self.regs;
         let mut tail = self.tail;
         let mut head = self.head;
         let mut cells = self.cells;
         let mut firsts = self.firsts;
-        let mut counts = self.counts;
-        let a = checked::step(
+        let mut stored = self.stored;
+        let a = slot_checked::step(
             &mut tail,
             &mut head,
             &mut cells,
             &mut firsts,
-            &mut counts,
-            small,
+            &mut stored,
+            regs,
             arrival,
             request,
             store,
         );
-        let next = a.small;
+        let next = a.regs;
         let number = a.number;
         let delivery = a.delivery;
         let written = a.written;
         let read = a.read;
         Slotted {
             state: State {
-                small: next,
+                regs: next,
                 tail: tail,
                 head: head,
                 cells: cells,
                 firsts: firsts,
-                counts: counts,
+                stored: stored,
             },
             number: number,
             delivery: delivery,
@@ -138,36 +144,36 @@ impl State {
     pub fn slot(self, arrival: Arrival, request: Request, store: &mut [u8]) -> Slotted
         ensures { λ r. ⌜ SlotSays self (now (store .entry)) (callIn arrival request) r (now (store .exit)) ⌝ }
     {
-        let small = self.small;
+        let regs = self.regs;
         let mut tail = self.tail;
         let mut head = self.head;
         let mut cells = self.cells;
         let mut firsts = self.firsts;
-        let mut counts = self.counts;
-        let a = checked::slot(
+        let mut stored = self.stored;
+        let a = slot_checked::slot(
             &mut tail,
             &mut head,
             &mut cells,
             &mut firsts,
-            &mut counts,
-            small,
+            &mut stored,
+            regs,
             arrival,
             request,
             store,
         );
-        let left = a.small;
+        let left = a.regs;
         let judged = a.number;
         let delivery = a.delivery;
         let written = a.written;
         let fetched = a.read;
         Slotted {
             state: State {
-                small: left,
+                regs: left,
                 tail: tail,
                 head: head,
                 cells: cells,
                 firsts: firsts,
-                counts: counts,
+                stored: stored,
             },
             number: judged,
             delivery: delivery,

@@ -1,6 +1,6 @@
 // "The margin of a queue is its head bytes less its Owed cells": a signed number, of any state and any queue.
 ghost use Rattle.buffer.specs.Says.{stateOf};
-ghost use Rattle.buffer.specs.Moves.{MarginSays};
+ghost use Rattle.buffer.specs.OneStep.{MarginSays};
 use crate::State;
 
 impl State {
@@ -9,12 +9,12 @@ impl State {
     pub fn margin(self, queue: u8) -> i32
         ensures { λ r. ⌜ MarginSays (stateOf self) queue r ⌝ }
     {
-        margins::margin(
+        buffer_margin::margin(
             &self.head,
             &self.cells,
-            self.small.head_fill,
-            self.small.queues,
-            self.small.block,
+            self.regs.head_fill,
+            self.regs.queues,
+            self.regs.block,
             queue,
         )
     }

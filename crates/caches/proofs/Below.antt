@@ -6,11 +6,12 @@ use Prim.Native.Nat.{ℕ, _+_, _/_, _≤_, _<_}
 use native.Mathlib.Omega.{arith}
 use lib.ListN.{length, getD}
 use borrow.Author.Tests.{lt-ltb, ltb-true}
-use Rattle.model.specs.Words.{allOf}
+use Rattle.model.specs.Basics.{allOf}
 use Rattle.model.specs.State.{byteBelow}
-use Rattle.model.proofs.Words.{by-test, all-of-at, all-of-more}
-use Rattle.caches.specs.Views.{byteOf, bytesIn}
-use Rattle.caches.proofs.Entries.{bytes-none, bytes-length, byte-at, bytes-more}
+use Rattle.model.proofs.basics.Tests.{by-test}
+use Rattle.model.proofs.basics.AllOf.{all-of-at, all-of-more}
+use Rattle.layout.specs.Entries.{byteOf, bytesIn}
+use Rattle.layout.proofs.Entries.{bytes-none, bytes-length, byte-at, bytes-more}
 
 -- The entries' queues are below a number, as the bytes' are.
 module _ (queues : ℕ) (xs : List ℕ) where

@@ -1,18 +1,36 @@
 -- A loop that closes entries up over place p: what it keeps, and that the bytes are then those without the oldest.
 use mathlib.Core.Path.{_≡_, refl, ap, sym, _∙_}
-use mathlib.Core.List.{List, _∷_, [], _++_, append-assoc, append-nil}
-use Prim.Native.Nat.{ℕ, _+_, _-_, _%_, _≤_, _<_}
+use mathlib.Core.List.{List, _∷_, [], _++_, map, map-append, append-assoc, append-nil}
+use Prim.Native.Nat.{ℕ, zero, suc, _+_, _-_, _%_, _≤_, _<_}
 use native.Mathlib.Numerals.{add-one}
 use native.Mathlib.Omega.{arith}
 use lib.ListN.{length, take, drop, set, getD, length-set, drop-of-length-le}
 use lib.ListN.{length-append, length-drop}
-use lib.Seq.{length-take-le, drop-append-le, getD-set-other}
+use lib.Seq.{take-take, length-take-le, drop-append-le, getD-set-other}
 use lib.Seq.{take-add, take-length, take-append-le, take-append-add, drop-append-add}
-use Rattle.model.specs.State.{countOf}
-use Rattle.caches.specs.Views.{byteOf, bytesIn}
+use Rattle.model.specs.State.{Byte, countOf}
+use Rattle.layout.specs.Entries.{byteOf, bytesIn}
 use Rattle.caches.specs.Says.{placeOf, ClosedUp, TookOldest}
-use Rattle.caches.proofs.Entries.{take-more, take-stored, bytes-length, byte-at, bytes-closed}
+use Rattle.layout.proofs.Entries.{take-more, take-stored, bytes-length, byte-at}
 use Rattle.caches.proofs.Places.{without-oldest, oldest-within, oldest-is}
+
+-- A part of the entries, as bytes, is that part of the bytes.
+map-take : (i : ℕ) (xs : List ℕ) → map byteOf (take i xs) ≡ take i (map byteOf xs)
+map-take zero xs = refl
+map-take (suc i) [] = refl
+map-take (suc i) (x ∷ xs) = ap (λ (ys : List Byte). byteOf x ∷ ys) (map-take i xs)
+
+map-drop : (i : ℕ) (xs : List ℕ) → map byteOf (drop i xs) ≡ drop i (map byteOf xs)
+map-drop zero xs = refl
+map-drop (suc i) [] = refl
+map-drop (suc i) (x ∷ xs) = map-drop i xs
+
+pub bytes-closed : (p n : ℕ) (before after : List ℕ) → p ≤ n → ClosedUp p n before after
+    → bytesIn (n - 1) after ≡ take p (bytesIn n before) ++ drop (p + 1) (bytesIn n before)
+unfolding bytesIn
+bytes-closed p n before after h c =
+    rw (c .closed, ← take-take p n before h, map-append)
+    (rw (map-take p (take n before), map-drop (p + 1) (take n before)))
 
 -- The entries have closed up over place p as far as place i, and those after place i are as they were.
 pub record ClosedTo (p i : ℕ) (before after : List ℕ) : Type 0 where

@@ -1,7 +1,5 @@
 -- Laws of the views, by topic: what each loop keeps from turn to turn, and what its end says.
 
--- The first n entries as bytes.
-pub mod Entries
 -- The oldest byte of a queue: where it is, and the cache without it.
 pub mod Places
 pub mod Closing
@@ -10,6 +8,5 @@ pub mod Writing
 pub mod Reading
 -- Queues in range, and counts by queue.
 pub mod Below
-pub mod Counts
 pub mod Tallies
 pub mod Fullest

@@ -10,8 +10,8 @@ use lib.ListN.{length, take, drop, getD}
 use borrow.Author.Tests.{eq-eqb, ne-eqb, ltb-true, ltb-false}
 use Rattle.model.specs.State.{Byte, countOf}
 use Rattle.model.specs.Slot.{oldestOf, without}
-use Rattle.model.proofs.Words.{by-test}
-use Rattle.caches.specs.Views.{byteOf, bytesIn}
+use Rattle.model.proofs.basics.Tests.{by-test}
+use Rattle.layout.specs.Entries.{byteOf, bytesIn}
 use Rattle.caches.specs.Says.{NoneOf, placeOf}
 
 -- None in one part and none in the next.

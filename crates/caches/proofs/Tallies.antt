@@ -6,12 +6,13 @@ use native.Mathlib.Omega.{arith}
 use lib.Dec.{eqb}
 use lib.ListN.{length, set, getD, replicate, length-set}
 use Rattle.model.specs.State.{Byte, countOf}
-use Rattle.model.proofs.Words.{by-test, at-queue, update-same, update-other}
-use Rattle.model.proofs.Bytes.{count-append, count-one-same, count-one-other}
-use Rattle.caches.specs.Views.{byteOf, bytesIn, countsIn}
-use Rattle.caches.specs.Says.{Tally}
-use Rattle.caches.proofs.Entries.{bytes-none, bytes-more}
-use Rattle.caches.proofs.Counts.{counts-zero, counts-stored}
+use Rattle.model.proofs.basics.Tests.{by-test, at-queue, update-same, update-other}
+use Rattle.model.proofs.basics.Bytes.{count-append, count-one-same, count-one-other}
+use Rattle.layout.specs.Lengths.{queuePlaces}
+use Rattle.layout.specs.Entries.{byteOf, bytesIn, countsIn}
+use Rattle.layout.specs.Counts.{Tally}
+use Rattle.layout.proofs.Entries.{bytes-none, bytes-more}
+use Rattle.layout.proofs.Counts.{counts-zero, counts-stored}
 
 -- A count is at most the number of bytes, so it fits its array.
 pub count-le : (q : ℕ) (xs : List Byte) → countOf q xs ≤ length xs
@@ -22,14 +23,14 @@ count-le q (x ∷ xs) =
     (λ t. rw t (omega (arith, count-le q xs)))
 
 -- No byte yet, and one byte more.
-pub tally-starts : (xs : List ℕ) → Tally (replicate 64 0) (bytesIn 0 xs)
-tally-starts xs = rw (bytes-none xs) (record { long = refl; count-is = counts-zero 64 })
+pub tally-starts : (xs : List ℕ) → Tally (replicate queuePlaces 0) (bytesIn 0 xs)
+tally-starts xs = rw (bytes-none xs) (record { long = refl; count-is = counts-zero queuePlaces })
 
 pub tally-at : (counts : List ℕ) (xs : List Byte) (q : ℕ) → Tally counts xs → getD counts q 0 ≡ countOf q xs
 unfolding countsIn
 tally-at counts xs q w = w .count-is q
 
-tally-more : (counts : List ℕ) (xs : List Byte) (y : Byte) → y .queue < 64 → Tally counts xs
+tally-more : (counts : List ℕ) (xs : List Byte) (y : Byte) → y .queue < queuePlaces → Tally counts xs
     → Tally (set counts (y .queue) (getD counts (y .queue) 0 + 1)) (xs ++ y ∷ [])
 unfolding countsIn
 tally-more counts xs y l w =
@@ -49,7 +50,8 @@ tally-more counts xs y l w =
           ∙ omega (arith, w .count-is p, count-append p xs (y ∷ []), count-one-other y p t));
     }
 
-pub tally-one : (counts xs : List ℕ) (i : ℕ) → i < length xs → getD xs i 0 / 256 < 64 → Tally counts (bytesIn i xs)
+pub tally-one : (counts xs : List ℕ) (i : ℕ) → i < length xs → getD xs i 0 / 256 < queuePlaces
+    → Tally counts (bytesIn i xs)
     → Tally (set counts (getD xs i 0 / 256) (getD counts (getD xs i 0 / 256) 0 + 1)) (bytesIn (i + 1) xs)
 unfolding byteOf
 tally-one counts xs i h l w = rw (bytes-more i xs h) (tally-more counts (bytesIn i xs) (byteOf (getD xs i 0)) l w)

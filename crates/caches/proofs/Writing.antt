@@ -12,11 +12,11 @@ use mir.Val.{boolByte}
 use borrow.Author.Tests.{eq-eqb, eqb-true, eqb-false, ltb-true, ltb-false}
 use Rattle.model.specs.State.{Byte, valuesOf, countOf}
 use Rattle.model.specs.Slot.{without, placed}
-use Rattle.model.proofs.Words.{by-test}
-use Rattle.model.proofs.Bytes.{values-append}
-use Rattle.caches.specs.Views.{byteOf, bytesIn}
+use Rattle.model.proofs.basics.Tests.{by-test}
+use Rattle.model.proofs.basics.Bytes.{values-append}
+use Rattle.layout.specs.Entries.{byteOf, bytesIn}
 use Rattle.caches.specs.Says.{WroteOut}
-use Rattle.caches.proofs.Entries.{bytes-none, bytes-more, bytes-stored}
+use Rattle.layout.proofs.Entries.{bytes-none, bytes-more, bytes-stored}
 
 -- One byte more in the cache: it is one of the n oldest of its queue, or it stays.
 without-nil : (n q : ℕ) → without n q [] ≡ []

@@ -1,3 +1,2 @@
--- Caches and counts as arrays hold them, and what the operations on those arrays promise.
-pub mod Views
+-- What the operations on a cache and on counts by queue promise.
 pub mod Says

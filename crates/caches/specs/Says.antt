@@ -1,21 +1,14 @@
 -- What the operations on a cache promise: each gives what the array then holds by the model's own definition.
 use mathlib.Core.Path.{_≡_}
 use mathlib.Core.List.{List, [], _∷_, _++_}
-use mathlib.Core.Option.{Option, some, none}
+use mathlib.Core.Option.{some}
 use Prim.Native.Nat.{ℕ, suc, _+_, _-_, _/_, _<_}
 use lib.Dec.{eqb}
 use lib.ListN.{length, take, drop, getD}
-use Rattle.model.specs.Words.{choose}
-use Rattle.model.specs.State.{Byte, byte, valuesOf, countOf}
+use Rattle.model.specs.Basics.{choose}
+use Rattle.model.specs.State.{Byte, byte, valuesOf}
 use Rattle.model.specs.Slot.{oldestOf, without, placed, bytesFor}
-use Rattle.caches.specs.declared.Chosen.{Chosen}
-use Rattle.caches.specs.declared.Chosen.the-variants.{Queue, Nothing}
-use Rattle.caches.specs.Views.{bytesIn, countsIn}
-
--- A queue that was chosen, or none.
-abbrev pub chosenIn : Chosen → Option ℕ
-chosenIn (Queue q) = some q
-chosenIn Nothing = none
+use Rattle.layout.specs.Entries.{bytesIn}
 
 -- None of n entries from `at` on is of queue q.
 abbrev pub NoneOf : ℕ → List ℕ → ℕ → ℕ → Type 0
@@ -52,13 +45,3 @@ pub record WroteOut (n q b place : ℕ) (before after store stored : List ℕ) :
 pub record ReadIn (n q b place : ℕ) (before after store : List ℕ) : Type 0 where
   pub joined : bytesIn (n + b) after ≡ bytesIn n before ++ bytesFor q (take b (drop place store))
   pub same-length : length after ≡ length before
-
--- 64 counts: of each queue its bytes.
-pub record Tally (counts : List ℕ) (xs : List Byte) : Type 0 where
-  pub long : length counts ≡ 64
-  pub count-is : (q : ℕ) → countsIn counts q ≡ countOf q xs
-
--- An array of 64 counts holds these.
-pub record CountsAre (counts : List ℕ) (f : ℕ → ℕ) : Type 0 where
-  pub long : length counts ≡ 64
-  pub count-is : (q : ℕ) → countsIn counts q ≡ f q

@@ -4,18 +4,17 @@ ghost use mathlib.Core.Path.{_≡_};
 ghost use mathlib.Core.Bool.{true, false};
 ghost use Prim.Native.Nat.{_+_, _≤_, _<_};
 ghost use lib.ListN.{length};
-ghost use Rattle.model.specs.Words.{allOf};
+ghost use Rattle.model.specs.Basics.{allOf};
 ghost use Rattle.model.specs.State.{countOf, byteBelow};
 ghost use Rattle.model.specs.Slot.{fullest};
-ghost use Rattle.caches.specs.Views.{bytesIn, countsIn};
-ghost use Rattle.caches.specs.Says.{chosenIn, NoneOf, placeOf, ClosedUp, TookOldest};
-ghost use Rattle.caches.specs.Says.{JoinedBy, WroteOut, ReadIn, Tally};
-
-// A queue, or none.
-pub enum Chosen {
-    Queue(u8),
-    Nothing,
-}
+ghost use Rattle.layout.specs.Lengths.{headPlaces, queuePlaces};
+ghost use Rattle.layout.specs.Entries.{bytesIn, countsIn};
+ghost use Rattle.layout.specs.Calls.{chosenIn};
+ghost use Rattle.caches.specs.Says.{NoneOf, placeOf, ClosedUp, TookOldest, JoinedBy, WroteOut, ReadIn};
+ghost use Rattle.layout.specs.Counts.{Tally};
+use layout::Chosen;
+use layout::CountArray;
+use layout::QUEUE_PLACES;
 
 // Whether one of 32 entries is of queue q: a loop with no early end, fit for vector instructions.
 fn has_queue(entries: &[u16], at: usize, q: u16) -> bool
@@ -140,11 +139,12 @@ pub fn read_in(entries: &mut [u16], n: usize, q: u8, b: usize, store: &[u8], pla
 }
 
 // Of each queue its bytes among the first n.
-pub fn tally(entries: &[u16], n: usize) -> [u16; 64]
-    requires { ⌜ (n ≤ 4034) × (n ≤ length (now entries)) × (allOf (byteBelow 64) (bytesIn n (now entries)) ≡ true) ⌝ }
+pub fn tally(entries: &[u16], n: usize) -> CountArray
+    requires { ⌜ (n ≤ headPlaces) × (n ≤ length (now entries))
+        × (allOf (byteBelow queuePlaces) (bytesIn n (now entries)) ≡ true) ⌝ }
     ensures { λ r. ⌜ Tally r (bytesIn n (now (entries .entry))) ⌝ }
 {
-    let mut counts = [0u16; 64];
+    let mut counts = [0u16; QUEUE_PLACES];
     let mut i: usize = 0;
     while i < n {
         let q = (entries[i] / 256) as usize;
@@ -170,8 +170,8 @@ pub fn all_below(entries: &[u16], n: usize, queues: usize) -> bool
 }
 
 // Among the first n queues with b bytes or more the one with most, the lowest number on a tie.
-pub fn fullest_of(counts: &[u16; 64], n: usize, b: u16) -> Chosen
-    requires { ⌜ (n ≤ 64) × (length (now counts) ≡ 64) × (1 ≤ b) ⌝ }
+pub fn fullest_of(counts: &CountArray, n: usize, b: u16) -> Chosen
+    requires { ⌜ (n ≤ queuePlaces) × (length (now counts) ≡ queuePlaces) × (1 ≤ b) ⌝ }
     ensures { λ r. ⌜ chosenIn r ≡ fullest b (countsIn (now (counts .entry))) n ⌝ }
 {
     let mut found = Chosen::Nothing;

@@ -1,4 +1,3 @@
--- Laws of the lookahead as an array holds it, and one turn of each loop over it.
-pub mod Cells
+-- One turn of each loop over the lookahead.
 pub mod Turns
 pub mod Spending

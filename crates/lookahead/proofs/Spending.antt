@@ -7,31 +7,32 @@ use lib.Dec.{eqb}
 use lib.ListN.{length, set, getD, length-set}
 use borrow.Author.Tests.{eqb-true}
 use Rattle.model.specs.State.{owed}
-use Rattle.model.proofs.Words.{by-test}
-use Rattle.caches.specs.Views.{countsIn}
-use Rattle.caches.specs.Says.{CountsAre}
-use Rattle.caches.proofs.Counts.{counts-stored}
-use Rattle.lookahead.specs.Views.{cellOf}
+use Rattle.model.proofs.basics.Tests.{by-test}
+use Rattle.layout.specs.Lengths.{queuePlaces}
+use Rattle.layout.specs.Entries.{countsIn, cellOf}
+use Rattle.layout.specs.Counts.{CountsAre}
+use Rattle.layout.proofs.Counts.{counts-stored}
 use Rattle.lookahead.specs.Says.{spent}
-use Rattle.lookahead.proofs.Cells.{cell-owed, cell-owes-nothing}
+use Rattle.layout.proofs.Cells.{cell-owed, cell-owes-nothing}
 
 -- What the contract asks of an Owed cell, at the queue that its number has.
 abbrev pub Spendable : List ℕ → ℕ → Type 0
-Spendable counts cell = (q : ℕ) → cellOf cell ≡ owed q → (q < 64) × (1 ≤ countsIn counts q)
+Spendable counts cell = (q : ℕ) → cellOf cell ≡ owed q → (q < queuePlaces) × (1 ≤ countsIn counts q)
 
 pub spendable-at : (counts : List ℕ) (cell : ℕ) → Spendable counts cell → 131072 ≤ cell
-    → (cell / 256 % 256 < 64) × (1 ≤ getD counts (cell / 256 % 256) 0)
+    → (cell / 256 % 256 < queuePlaces) × (1 ≤ getD counts (cell / 256 % 256) 0)
 unfolding countsIn
 spendable-at counts cell f h = f (cell / 256 % 256) (cell-owed cell h)
 
-pub spends-nothing : (counts : List ℕ) (cell : ℕ) → length counts ≡ 64 → cell < 131072
+pub spends-nothing : (counts : List ℕ) (cell : ℕ) → length counts ≡ queuePlaces → cell < 131072
     → CountsAre counts (spent (countsIn counts) (cellOf cell))
 spends-nothing counts cell long h = record {
   long = long;
   count-is = λ p. omega (arith, cell-owes-nothing cell p h);
 }
 
-pub spends-one : (counts : List ℕ) (cell : ℕ) → length counts ≡ 64 → 131072 ≤ cell → cell / 256 % 256 < 64
+pub spends-one : (counts : List ℕ) (cell : ℕ) → length counts ≡ queuePlaces → 131072 ≤ cell
+    → cell / 256 % 256 < queuePlaces
     → CountsAre (set counts (cell / 256 % 256) (getD counts (cell / 256 % 256) 0 - 1))
     (spent (countsIn counts) (cellOf cell))
 unfolding countsIn

@@ -12,14 +12,15 @@ use mir.Val.{boolByte}
 use borrow.Author.Tests.{eqb-true, leb-true, leb-false}
 use Rattle.model.specs.State.{Cell, empty, held, owed, owes, owedOf}
 use Rattle.model.specs.Slot.{refillQueue}
-use Rattle.model.proofs.Words.{by-test}
-use Rattle.model.proofs.Scan.{scan-stops, scan-goes-on}
-use Rattle.caches.specs.Views.{countsIn}
-use Rattle.caches.proofs.Counts.{counts-zero, counts-stored}
-use Rattle.lookahead.specs.Views.{cellsIn}
-use Rattle.lookahead.specs.Says.{Shifted, TallyOwed, Scanned}
-use Rattle.lookahead.proofs.Cells.{queueAt, cell-owed, cell-owes-nothing, cell-skipped, no-cells, cells-length}
-use Rattle.lookahead.proofs.Cells.{cells-more, cells-stored, owed-more, cells-from}
+use Rattle.model.proofs.basics.Tests.{by-test}
+use Rattle.model.proofs.meaning.Scan.{scan-stops, scan-goes-on}
+use Rattle.layout.specs.Lengths.{queuePlaces}
+use Rattle.layout.specs.Entries.{countsIn, cellsIn}
+use Rattle.layout.proofs.Counts.{counts-zero, counts-stored}
+use Rattle.lookahead.specs.Says.{Shifted, Scanned}
+use Rattle.layout.specs.Counts.{TallyOwed}
+use Rattle.layout.proofs.Cells.{queueAt, cell-owed, cell-owes-nothing, cell-skipped, no-cells, cells-length}
+use Rattle.layout.proofs.Cells.{cells-more, cells-stored, owed-more, cells-from}
 
 -- The shift before turn i: i cells have moved down, and those from i on are where they were.
 pub record ShiftedTo (i l : ℕ) (before after : List ℕ) : Type 0 where
@@ -64,7 +65,7 @@ module _ {i l : ℕ} {before after : List ℕ} (fits : l ≤ length before) (w :
 -- The scan before cell i: whatever follows, it answers as the scan of the cells from i on with the credits left.
 pub record ScannedTo (i from l : ℕ) (xs credits left : List ℕ) : Type 0 where
   pub within : i ≤ l
-  pub long : length left ≡ 64
+  pub long : length left ≡ queuePlaces
   pub goes-on : (rest : List Cell)
       → refillQueue (countsIn credits) (drop from (cellsIn l xs) ++ rest)
       ≡ refillQueue (countsIn left) (drop i (cellsIn l xs) ++ rest)
@@ -100,7 +101,7 @@ module _ {i from l : ℕ} {xs credits left : List ℕ} (fits : l ≤ length xs) 
             (scan-stops (countsIn left) (queueAt xs i) (drop (i + 1) (cellsIn l xs) ++ rest) uncovered);
       }
 
-      pub scan-spends : queueAt xs i < 64 → 1 ≤ getD left (queueAt xs i) 0
+      pub scan-spends : queueAt xs i < queuePlaces → 1 ≤ getD left (queueAt xs i) 0
           → ScannedTo (i + 1) from l xs credits (set left (queueAt xs i) (getD left (queueAt xs i) 0 - 1))
       unfolding countsIn
       scan-spends below covered = record {
@@ -119,7 +120,7 @@ module _ {i from l : ℕ} {xs credits left : List ℕ} (fits : l ≤ length xs) 
     abbrev takes : ℕ
     takes = boolByte (leb 131072 (getD xs i 0))
 
-    pub scan-covers : queueAt xs i < 64 → takes ≤ getD left (queueAt xs i) 0
+    pub scan-covers : queueAt xs i < queuePlaces → takes ≤ getD left (queueAt xs i) 0
         → ScannedTo (i + 1) from l xs credits (set left (queueAt xs i) (getD left (queueAt xs i) 0 - takes))
     scan-covers below covered =
         by-test (leb 131072 (getD xs i 0))
@@ -141,11 +142,14 @@ pub record TalliedTo (i n : ℕ) (xs counts : List ℕ) : Type 0 where
   pub within : i ≤ n
   pub tally : TallyOwed counts (cellsIn i xs)
 
-pub tally-starts : (n : ℕ) (xs : List ℕ) → TalliedTo 0 n xs (replicate 64 0)
+pub tally-starts : (n : ℕ) (xs : List ℕ) → TalliedTo 0 n xs (replicate queuePlaces 0)
 unfolding countsIn
 tally-starts n xs = record {
   within = omega arith;
-  tally = record { long = length-replicate {A = ℕ} 64 0; count-is = λ q. rw no-cells (counts-zero 64 q) };
+  tally = record {
+    long = length-replicate {A = ℕ} queuePlaces 0;
+    count-is = λ q. rw no-cells (counts-zero queuePlaces q);
+  };
 }
 
 count-raised : (counts : List ℕ) (q p : ℕ) → q < length counts
@@ -192,7 +196,7 @@ module _ {i n : ℕ} {xs counts : List ℕ} (fits : n ≤ length xs) (w : Tallie
       };
     }
 
-    pub tally-counts : 131072 ≤ getD xs i 0 → queueAt xs i < 64
+    pub tally-counts : 131072 ≤ getD xs i 0 → queueAt xs i < queuePlaces
         → TalliedTo (i + 1) n xs (set counts (queueAt xs i) (getD counts (queueAt xs i) 0 + 1))
     tally-counts owing below = record {
       within = omega arith;

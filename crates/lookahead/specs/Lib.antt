@@ -1,3 +1,2 @@
--- The lookahead as an array holds it, and what the operations on it promise.
-pub mod Views
+-- What the operations on the lookahead promise.
 pub mod Says

@@ -4,20 +4,14 @@ use mathlib.Core.List.{List, [], _∷_, _++_}
 use mathlib.Core.Option.{Option, some, none}
 use Prim.Native.Nat.{ℕ, _-_}
 use lib.ListN.{length, drop}
-use Rattle.model.specs.State.{Cell, owes, owedOf}
+use Rattle.model.specs.State.{Cell, owes}
 use Rattle.model.specs.Slot.{refillQueue}
-use Rattle.caches.specs.Views.{countsIn}
-use Rattle.lookahead.specs.Views.{cellOf, cellsIn}
+use Rattle.layout.specs.Entries.{cellOf, cellsIn}
 
 -- The oldest of l cells has left, and a new one is the youngest.
 pub record Shifted (l cell : ℕ) (before after : List ℕ) : Type 0 where
   pub cells-are : cellsIn l after ≡ drop 1 (cellsIn l before) ++ cellOf cell ∷ []
   pub same-length : length after ≡ length before
-
--- 64 counts: of each queue its Owed cells.
-pub record TallyOwed (counts : List ℕ) (cells : List Cell) : Type 0 where
-  pub long : length counts ≡ 64
-  pub count-is : (q : ℕ) → countsIn counts q ≡ owedOf q cells
 
 -- A scan of cells with credits stopped at a queue; or it did not, and goes on with the credits left, whatever follows.
 abbrev pub scanEnds : Option ℕ → (ℕ → ℕ) → List Cell → Option ℕ

@@ -4,18 +4,18 @@ ghost use mathlib.Core.Path.{_≡_};
 ghost use mathlib.Core.Bool.{true};
 ghost use Prim.Native.Nat.{ℕ, _≤_, _<_};
 ghost use lib.ListN.{length, drop};
-ghost use Rattle.model.specs.Words.{allOf};
+ghost use Rattle.model.specs.Basics.{allOf};
 ghost use Rattle.model.specs.State.{owed, cellBelow};
-ghost use Rattle.caches.specs.Views.{countsIn};
-ghost use Rattle.caches.specs.Says.{chosenIn, CountsAre};
-ghost use Rattle.lookahead.specs.Views.{cellOf, cellsIn};
-ghost use Rattle.lookahead.specs.Says.{Shifted, TallyOwed, Scanned, spent};
-use caches::Chosen;
-
-// A cell is kind × 65,536 + queue × 256 + value: below `HELD` it is empty, from `OWED` on it is Owed.
-pub const HELD: u32 = 65536;
-
-pub const OWED: u32 = 131072;
+ghost use Rattle.layout.specs.Lengths.{cellPlaces, queuePlaces};
+ghost use Rattle.layout.specs.Entries.{countsIn, cellOf, cellsIn};
+ghost use Rattle.layout.specs.Calls.{chosenIn};
+ghost use Rattle.layout.specs.Counts.{CountsAre, TallyOwed};
+ghost use Rattle.lookahead.specs.Says.{Shifted, Scanned, spent};
+use layout::Chosen;
+use layout::CountArray;
+use layout::HELD;
+use layout::OWED;
+use layout::QUEUE_PLACES;
 
 // The oldest of l cells leaves, and `cell` comes in as the youngest.
 pub fn shift(cells: &mut [u32], l: usize, cell: u32)
@@ -33,12 +33,13 @@ pub fn shift(cells: &mut [u32], l: usize, cell: u32)
 // Where a scan stopped, and the credits that it left.
 pub struct Stopped {
     pub found: Chosen,
-    pub left: [u16; 64],
+    pub left: CountArray,
 }
 
 // Scans the cells from `from` to l, and stops at the first Owed cell that its queue's credits do not cover.
-pub fn scan(cells: &[u32], from: usize, l: usize, credits: [u16; 64]) -> Stopped
-    requires { ⌜ (from ≤ l) × (l ≤ length (now cells)) × (allOf (cellBelow 64) (cellsIn l (now cells)) ≡ true) ⌝ }
+pub fn scan(cells: &[u32], from: usize, l: usize, credits: CountArray) -> Stopped
+    requires { ⌜ (from ≤ l) × (l ≤ length (now cells))
+        × (allOf (cellBelow queuePlaces) (cellsIn l (now cells)) ≡ true) ⌝ }
     ensures { λ r. ⌜ Scanned (countsIn credits) (drop from (cellsIn l (now (cells .entry))))
         (chosenIn (r .found)) (countsIn (r .left)) ⌝ }
 {
@@ -67,11 +68,12 @@ pub fn scan(cells: &[u32], from: usize, l: usize, credits: [u16; 64]) -> Stopped
 }
 
 // Of each queue its Owed cells among the first n.
-pub fn tally_owed(cells: &[u32], n: usize) -> [u16; 64]
-    requires { ⌜ (n ≤ 2017) × (n ≤ length (now cells)) × (allOf (cellBelow 64) (cellsIn n (now cells)) ≡ true) ⌝ }
+pub fn tally_owed(cells: &[u32], n: usize) -> CountArray
+    requires { ⌜ (n ≤ cellPlaces) × (n ≤ length (now cells))
+        × (allOf (cellBelow queuePlaces) (cellsIn n (now cells)) ≡ true) ⌝ }
     ensures { λ r. ⌜ TallyOwed r (cellsIn n (now (cells .entry))) ⌝ }
 {
-    let mut counts = [0u16; 64];
+    let mut counts = [0u16; QUEUE_PLACES];
     let mut i: usize = 0;
     while i < n {
         let cell = cells[i];
@@ -85,9 +87,9 @@ pub fn tally_owed(cells: &[u32], n: usize) -> [u16; 64]
 }
 
 // A leaving Owed cell takes one from its queue's count.
-pub fn spend(counts: &mut [u16; 64], leaving: u32)
-    requires { ⌜ (length (now counts) ≡ 64)
-        × ((q : ℕ) → cellOf leaving ≡ owed q → (q < 64) × (1 ≤ countsIn (now counts) q)) ⌝ }
+pub fn spend(counts: &mut CountArray, leaving: u32)
+    requires { ⌜ (length (now counts) ≡ queuePlaces)
+        × ((q : ℕ) → cellOf leaving ≡ owed q → (q < queuePlaces) × (1 ≤ countsIn (now counts) q)) ⌝ }
     ensures { λ _. ⌜ CountsAre (now (counts .exit)) (spent (countsIn (now (counts .entry))) (cellOf leaving)) ⌝ }
 {
     if OWED <= leaving {

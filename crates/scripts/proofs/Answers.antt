@@ -7,13 +7,13 @@ use mathlib.Core.Option.{Option, some, none}
 use Prim.Native.Nat.{ℕ, _+_, _≤_, _<_}
 use native.Mathlib.Omega.{arith}
 use lib.ListN.{length, drop, getD, length-drop}
-use Rattle.model.proofs.Words.{by-option}
-use Rattle.commands.specs.Commands.{Kind, row, kindOf, widths}
-use Rattle.commands.specs.Scripts.{refused, taken, readCode, readCommand}
-use Rattle.commands.specs.Values.{commandIn}
-use Rattle.commands.specs.declared.Command as enum
-use Rattle.commands.proofs.Judging.{reads-out-of-place, reads-cut-short, reads-taken}
-use Rattle.codes.specs.Says.{lengthOf, PlaceSays, Enough, CommandSays}
+use Rattle.model.proofs.basics.Tests.{by-option}
+use Rattle.script_commands.specs.Commands.{Kind, row, kindOf, widths}
+use Rattle.script_commands.specs.Scripts.{refused, taken, readCode, readCommand}
+use Rattle.script_commands.specs.Values.{commandIn}
+use Rattle.script_commands.specs.declared.Command as enum
+use Rattle.script_commands.proofs.Judging.{reads-out-of-place, reads-cut-short, reads-taken}
+use Rattle.script_codes.specs.Says.{lengthOf, PlaceSays, Enough, CommandSays}
 
 module _ (rest : List ℕ) (first : Bool) where
   pub nothing-left : length rest ≡ 0 → refused 15 ≡ readCommand first rest

@@ -7,20 +7,21 @@ use Prim.Native.Nat.{ℕ}
 use native.Mathlib.Omega.{arith}
 use lib.ListN.{length, take, drop}
 use lib.Seq.{take-append-seam, take-append-add, drop-append-seam}
-use Rattle.model.specs.Words.{All, choose}
-use Rattle.model.proofs.Words.{when-zero, true-not-false}
-use Rattle.commands.specs.declared.Command as code
-use Rattle.commands.specs.Commands.{Command, isEnd, Fits}
-use Rattle.commands.specs.Scripts.{taken, outOfPlace, readCommand, Script, judge}
-use Rattle.commands.specs.Scripts.{commandBytes, scriptBytes, InOrder, ends, goes-on}
-use Rattle.commands.specs.Values.{commandIn}
-use Rattle.commands.proofs.Judging.{refused-not-taken, taken-same-command, taken-same-length}
-use Rattle.commands.proofs.ReadBack.{reads-back, script-judged-good}
-use Rattle.commands.proofs.Values.{command-inj, commands-inj}
+use Rattle.model.specs.Basics.{All, choose}
+use Rattle.model.proofs.basics.FirstRefusal.{when-zero}
+use Rattle.model.proofs.basics.Tests.{true-not-false}
+use Rattle.script_commands.specs.declared.Command as code
+use Rattle.script_commands.specs.Commands.{Command, isEnd, OperandsFit}
+use Rattle.script_commands.specs.Scripts.{taken, outOfPlace, readCommand, Script, judge}
+use Rattle.script_commands.specs.Scripts.{commandBytes, scriptBytes, InOrder, ends, goes-on}
+use Rattle.script_commands.specs.Values.{commandIn}
+use Rattle.script_commands.proofs.Judging.{refused-not-taken, taken-same-command, taken-same-length}
+use Rattle.script_commands.proofs.ReadBack.{reads-back, script-judged-good}
+use Rattle.script_commands.proofs.Values.{command-inj, commands-inj}
 use Rattle.scripts.specs.declared.Reading as code-reading
 use Rattle.scripts.specs.declared.Reading.the-variants.{Taken, Refused}
 use Rattle.scripts.specs.declared.Written.{Written}
-use Rattle.scripts.specs.Says.{readingIn, bytesIn, tooShort, WriteSays}
+use Rattle.scripts.specs.Says.{readingIn, commandBytesIn, tooShort, CommandWritten}
 use Rattle.scripts.specs.Back.{CommandBack, Writes, none-written, next-written, Reads, end-read, next-read}
 use Rattle.scripts.specs.Back.{ScriptBack, ReadBack}
 
@@ -36,21 +37,21 @@ reading-inj (Taken d m) c n e =
 reading-inj (Refused m) c n e = absurd (refused-not-taken m (commandIn c) n e)
 
 -- What an accepted write leaves: the command's bytes, and the output behind them.
-module _ (c : code.Command) (output output′ : List ℕ) (w : Written) (says : WriteSays c output w output′)
+module _ (c : code.Command) (output output′ : List ℕ) (w : Written) (says : CommandWritten c output w output′)
     (accepted : w .number ≡ 0) where
   long-enough : tooShort c output ≡ false
   long-enough = when-zero (tooShort c output) 15 (sym (says .number-is) ∙ accepted)
 
-  written-length : w .length ≡ length (bytesIn c)
-  written-length = says .length-is ∙ ap (λ (t : Bool). choose t 0 (length (bytesIn c))) long-enough
+  written-length : w .length ≡ length (commandBytesIn c)
+  written-length = says .length-is ∙ ap (λ (t : Bool). choose t 0 (length (commandBytesIn c))) long-enough
 
-  written-output : output′ ≡ bytesIn c ++ drop (length (bytesIn c)) output
+  written-output : output′ ≡ commandBytesIn c ++ drop (length (commandBytesIn c)) output
   written-output =
       says .output-is
-      ∙ ap (λ (t : Bool). choose t output (bytesIn c ++ drop (length (bytesIn c)) output)) long-enough
+      ∙ ap (λ (t : Bool). choose t output (commandBytesIn c ++ drop (length (commandBytesIn c)) output)) long-enough
 
-  written-bytes : take (w .length) output′ ≡ bytesIn c
-  written-bytes = rw (written-length, written-output) (take-append-seam (bytesIn c) _)
+  written-bytes : take (w .length) output′ ≡ commandBytesIn c
+  written-bytes = rw (written-length, written-output) (take-append-seam (commandBytesIn c) _)
 
 command-back : CommandBack
 command-back c output output′ w first r says accepted t reads =
@@ -62,7 +63,7 @@ command-back c output output′ w first r says accepted t reads =
 
 -- What a script's writing leaves at the start of the output.
 all-fit : (cs : List code.Command) (output output′ : List ℕ) (n : ℕ) → Writes cs output output′ n
-    → All Fits (map commandIn cs)
+    → All OperandsFit (map commandIn cs)
 all-fit [] output output′ n none-written = tt
 all-fit (c ∷ cs) output output′ n (next-written says accepted rest) = (says .fits, all-fit cs _ _ _ rest)
 
@@ -72,15 +73,15 @@ script-written [] output output′ n none-written = refl
 script-written (c ∷ cs) output output′ n
     (next-written {output′ = here} {rest′ = rest} {w = w} {n = m} says accepted writes) =
     rw (written-bytes c output here w says accepted, written-length c output here w says accepted)
-    (take-append-add (bytesIn c) rest m)
-    ∙ ap (λ (bytes : List ℕ). bytesIn c ++ bytes) (script-written cs _ rest m writes)
+    (take-append-add (commandBytesIn c) rest m)
+    ∙ ap (λ (bytes : List ℕ). commandBytesIn c ++ bytes) (script-written cs _ rest m writes)
 
 same-end : (c : code.Command) (d : Command) → commandIn c ≡ d → isEnd (commandIn c .kind) ≡ isEnd (d .kind)
 same-end c d same = ap (λ (b : Command). isEnd (b .kind)) same
 
 -- One command read from the bytes of one that was written: it is that one, and what is left is what follows it.
 module _ (first : Bool) (d : Command) (bytes rest : List ℕ) (r : code-reading.Reading) (c : code.Command) (n : ℕ)
-    (is-bytes : bytes ≡ commandBytes d ++ rest) (fits : Fits d) (in-place : outOfPlace first (d .kind) ≡ false)
+    (is-bytes : bytes ≡ commandBytes d ++ rest) (fits : OperandsFit d) (in-place : outOfPlace first (d .kind) ≡ false)
     (reads : readingIn r ≡ readCommand first bytes) (is-taken : r ≡ Taken c n) where
   same-reading : taken (commandIn c) n ≡ taken d (length (commandBytes d))
   same-reading =
@@ -95,7 +96,7 @@ module _ (first : Bool) (d : Command) (bytes rest : List ℕ) (r : code-reading.
   kind-read : (t : Bool) → isEnd (commandIn c .kind) ≡ t → isEnd (d .kind) ≡ t
   kind-read t e = sym (same-end c d command-read) ∙ e
 
-script-read : (first : Bool) (ds : List Command) → InOrder first ds → All Fits ds
+script-read : (first : Bool) (ds : List Command) → InOrder first ds → All OperandsFit ds
     → (bytes : List ℕ) → bytes ≡ scriptBytes ds → (read : List code.Command) → Reads first bytes read
     → map commandIn read ≡ ds
 script-read first (d ∷ []) (ends in-place last) fits bytes e (c ∷ [])
@@ -115,13 +116,13 @@ script-read first (d ∷ ds) (goes-on in-place on order) fits bytes e (c ∷ cs)
 
 -- And there is such a reading: each command is taken in its turn.
 answer-is : (first : Bool) (d : Command) (bytes rest : List ℕ) (c : code.Command)
-    → bytes ≡ commandBytes d ++ rest → Fits d → outOfPlace first (d .kind) ≡ false → commandIn c ≡ d
+    → bytes ≡ commandBytes d ++ rest → OperandsFit d → outOfPlace first (d .kind) ≡ false → commandIn c ≡ d
     → readingIn (Taken c (length (commandBytes d))) ≡ readCommand first bytes
 answer-is first d bytes rest c e fits in-place same =
     ap (λ (b : Command). taken b (length (commandBytes d))) same
     ∙ sym (ap (readCommand first) e ∙ reads-back first d rest fits in-place)
 
-script-can-be-read : (first : Bool) (ds : List Command) → InOrder first ds → All Fits ds
+script-can-be-read : (first : Bool) (ds : List Command) → InOrder first ds → All OperandsFit ds
     → (bytes : List ℕ) → bytes ≡ scriptBytes ds → (cs : List code.Command) → map commandIn cs ≡ ds
     → Reads first bytes cs
 script-can-be-read first (d ∷ []) (ends in-place last) fits bytes e [] f = absurd (nil-not-cons d [] f)
@@ -151,7 +152,7 @@ script-back cs output output′ n order writes = record {
     written : take n output′ ≡ scriptBytes (map commandIn cs)
     written = script-written cs output output′ n writes
 
-    fit : All Fits (map commandIn cs)
+    fit : All OperandsFit (map commandIn cs)
     fit = all-fit cs output output′ n writes
 
     judged : judge (take n output′) ≡ record { commands = map commandIn cs; number = 0; offset = 0 }

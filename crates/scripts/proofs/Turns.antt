@@ -7,11 +7,10 @@ use Prim.Native.Nat.{ℕ, _+_, _-_, _≤_, _<_}
 use native.Mathlib.Omega.{arith}
 use lib.ListN.{length, drop, length-drop}
 use lib.Seq.{drop-drop}
-use Rattle.commands.specs.Commands.{Command, isEnd}
-use Rattle.commands.specs.Scripts.{refused, taken, readCommand, Script, afterEnd, withCommand}
-use Rattle.commands.specs.Scripts.{judgeFrom, judge}
-use Rattle.commands.proofs.Judging.{moves-on, judged-refused, judged-end, judged-on, judged-from-start}
-use Rattle.scripts.specs.Says.{JudgeSays}
+use Rattle.script_commands.specs.Commands.{Command, isEnd}
+use Rattle.script_commands.specs.Scripts.{refused, taken, readCommand, Script, afterEnd, withCommand, judgeFrom, judge}
+use Rattle.script_commands.proofs.Judging.{moves-on, judged-refused, judged-end, judged-on, judged-from-start}
+use Rattle.scripts.specs.Says.{ScriptJudged}
 
 -- A place up to which a script has been judged, and whether its command is to be the first.
 pub record JudgedTo (script : List ℕ) (at : ℕ) (first : Bool) : Type 0 where
@@ -40,14 +39,14 @@ bytes-follow at (x ∷ bytes) h = refl
 module _ {script : List ℕ} {at : ℕ} {first : Bool} (w : JudgedTo script at first) where
   -- What the script from the place on is judged, the whole script is.
   judged-so : {s : Script} → judgeFrom first at (drop at script) ≡ s
-      → JudgeSays script (record { number = s .number; offset = s .offset })
+      → ScriptJudged script (record { number = s .number; offset = s .offset })
   judged-so e = record {
     number-is = sym (w .number-is ∙ ap (λ (s : Script). s .number) e);
     offset-is = sym (w .offset-is ∙ ap (λ (s : Script). s .offset) e);
   }
 
   pub judge-refuses : {number : ℕ} → refused number ≡ readCommand first (drop at script)
-      → JudgeSays script (record { number = number; offset = at })
+      → ScriptJudged script (record { number = number; offset = at })
   judge-refuses {number} e = judged-so (judged-refused first at (drop at script) number (sym e))
 
   module _ {c : Command} {n : ℕ} (e : taken c n ≡ readCommand first (drop at script)) where
@@ -67,12 +66,12 @@ module _ {script : List ℕ} {at : ℕ} {first : Bool} (w : JudgedTo script at f
       ended : judgeFrom first at (drop at script) ≡ withCommand c (afterEnd (at + n) (drop n (drop at script)))
       ended = judged-end first at (drop at script) c n (sym e) t
 
-      pub judge-ends : length script ≤ at + n → JudgeSays script (record { number = 0; offset = 0 })
+      pub judge-ends : length script ≤ at + n → ScriptJudged script (record { number = 0; offset = 0 })
       judge-ends done =
           judged-so
           (ended ∙ ap (withCommand c) (nothing-follows (at + n) (drop n (drop at script)) (omega (arith, left-after))))
 
-      pub judge-follows : at + n < length script → JudgeSays script (record { number = 15; offset = at + n })
+      pub judge-follows : at + n < length script → ScriptJudged script (record { number = 15; offset = at + n })
       judge-follows more =
           judged-so
           (ended ∙ ap (withCommand c) (bytes-follow (at + n) (drop n (drop at script)) (omega (arith, left-after))))

@@ -7,10 +7,10 @@ use Prim.Native.Nat.{ℕ, _≤_, _<_}
 use native.Mathlib.Omega.{arith}
 use lib.ListN.{length, take, length-take}
 use borrow.Author.Tests.{lt-ltb, le-ltb}
-use Rattle.commands.specs.declared.Command as enum
-use Rattle.codes.specs.declared.Coded.{Coded}
-use Rattle.codes.specs.Says.{CodedSays, putOver}
-use Rattle.scripts.specs.Says.{bytesIn, tooShort, WriteSays}
+use Rattle.script_commands.specs.declared.Command as enum
+use Rattle.script_codes.specs.declared.Coded.{Coded}
+use Rattle.script_codes.specs.Says.{CodedSays, putOver}
+use Rattle.scripts.specs.Says.{commandBytesIn, tooShort, CommandWritten}
 
 module _ (c : enum.Command) (r : Coded) (w : CodedSays c r) where
   pub coded-count : r .length ≡ length (take (r .length) (r .bytes))
@@ -20,9 +20,10 @@ module _ (c : enum.Command) (r : Coded) (w : CodedSays c r) where
   coded-within = omega (arith, coded-count, length-take (r .length) (r .bytes))
 
   pub write-refused : (output : List ℕ) → length output < r .length
-      → WriteSays c output (record { number = 16; length = 0 }) output
+      → CommandWritten c output (record { number = 16; length = 0 }) output
   write-refused output short =
-      let t : tooShort c output ≡ true = lt-ltb (length output) (length (bytesIn c)) (omega (arith, w .length-is)) in
+      let t : tooShort c output ≡ true = lt-ltb (length output) (length (commandBytesIn c))
+      (omega (arith, w .length-is)) in
       record {
         fits = w .fits;
         number-is = rw t;
@@ -32,9 +33,10 @@ module _ (c : enum.Command) (r : Coded) (w : CodedSays c r) where
 
   pub write-done : (output output′ : List ℕ) → r .length ≤ length output
       → output′ ≡ putOver (take (r .length) (r .bytes)) output
-      → WriteSays c output (record { number = 0; length = r .length }) output′
+      → CommandWritten c output (record { number = 0; length = r .length }) output′
   write-done output output′ room put =
-      let t : tooShort c output ≡ false = le-ltb (length output) (length (bytesIn c)) (omega (arith, w .length-is)) in
+      let t : tooShort c output ≡ false = le-ltb (length output) (length (commandBytesIn c))
+      (omega (arith, w .length-is)) in
       record {
         fits = w .fits;
         number-is = rw t;

@@ -5,21 +5,21 @@ use mathlib.Core.Bool.{Bool, true, false}
 use mathlib.Core.List.{List, [], _∷_, _++_, map}
 use Prim.Native.Nat.{ℕ, _+_}
 use lib.ListN.{take, drop}
-use Rattle.commands.specs.declared.Command as code
-use Rattle.commands.specs.Commands.{isEnd}
-use Rattle.commands.specs.Scripts.{readCommand, outOfPlace, judge, InOrder}
-use Rattle.commands.specs.Values.{commandIn}
+use Rattle.script_commands.specs.declared.Command as code
+use Rattle.script_commands.specs.Commands.{isEnd}
+use Rattle.script_commands.specs.Scripts.{readCommand, outOfPlace, judge, InOrder}
+use Rattle.script_commands.specs.Values.{commandIn}
 use Rattle.scripts.specs.declared.Reading as code-reading
 use Rattle.scripts.specs.declared.Reading.the-variants.{Taken}
 use Rattle.scripts.specs.declared.Judged.{Judged}
 use Rattle.scripts.specs.declared.Written.{Written}
-use Rattle.scripts.specs.Says.{readingIn, JudgeSays, WriteSays}
+use Rattle.scripts.specs.Says.{readingIn, ScriptJudged, CommandWritten}
 
 -- One command: whatever is written reads back as itself with its length where it stands in order, whatever follows it.
 abbrev pub CommandBack : Type 0
 CommandBack =
     (c : code.Command) (output output′ : List ℕ) (w : Written) (first : Bool) (r : code-reading.Reading)
-    → WriteSays c output w output′ → w .number ≡ 0
+    → CommandWritten c output w output′ → w .number ≡ 0
     → outOfPlace first (commandIn c .kind) ≡ false
     → readingIn r ≡ readCommand first output′
     → r ≡ Taken c (w .length)
@@ -29,7 +29,7 @@ CommandBack =
 pub data Writes : List code.Command → List ℕ → List ℕ → ℕ → Type 0 where
   none-written : {output : List ℕ} → Writes [] output output 0
   next-written : {c : code.Command} {cs : List code.Command} {output output′ rest′ : List ℕ} {w : Written} {n : ℕ}
-      → WriteSays c output w output′ → w .number ≡ 0
+      → CommandWritten c output w output′ → w .number ≡ 0
       → Writes cs (drop (w .length) output′) rest′ n
       → Writes (c ∷ cs) output (take (w .length) output′ ++ rest′) (w .length + n)
 
@@ -47,7 +47,7 @@ pub data Reads : Bool → List ℕ → List code.Command → Type 0 where
 -- A whole script: written command by command in order, it is judged good, its commands are those that were written, and
 -- whoever reads it command by command comes to its end and has them.
 pub record ScriptBack (cs : List code.Command) (output′ : List ℕ) (n : ℕ) : Type 0 where
-  pub judged-good : (j : Judged) → JudgeSays (take n output′) j → j .number ≡ 0
+  pub judged-good : (j : Judged) → ScriptJudged (take n output′) j → j .number ≡ 0
   pub commands-are : judge (take n output′) .commands ≡ map commandIn cs
   pub reads-are : (read : List code.Command) → Reads true (take n output′) read → read ≡ cs
   pub reads-run : Reads true (take n output′) cs

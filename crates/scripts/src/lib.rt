@@ -1,9 +1,9 @@
 // Scripts: reading one command, judging a whole script, writing one command.
 ghost use mathlib.Core.Path.{_≡_};
-ghost use Rattle.commands.specs.Scripts.{readCommand};
-ghost use Rattle.scripts.specs.Says.{readingIn, JudgeSays, WriteSays};
+ghost use Rattle.script_commands.specs.Scripts.{readCommand};
+ghost use Rattle.scripts.specs.Says.{readingIn, ScriptJudged, CommandWritten};
 ghost use Rattle.scripts.specs.Back.{ReadBack};
-use commands::Command;
+use script_commands::Command;
 
 // What the reader answers: the command and how many bytes it has, or the refusal's number.
 pub enum Reading {
@@ -32,8 +32,8 @@ pub fn read(rest: &[u8], first: bool) -> Reading
         return Reading::Refused(15);
     }
     let code = rest[0];
-    let length = codes::command_length(code);
-    let misplaced = codes::out_of_place(code, first);
+    let length = script_codes::command_length(code);
+    let misplaced = script_codes::out_of_place(code, first);
     if length == 0 {
         return Reading::Refused(12);
     }
@@ -43,12 +43,12 @@ pub fn read(rest: &[u8], first: bool) -> Reading
     if rest.len() < length {
         return Reading::Refused(13);
     }
-    Reading::Taken(codes::command_of(code, &rest[1..]), length)
+    Reading::Taken(script_codes::command_of(code, &rest[1..]), length)
 }
 
 // A whole script, from command to command, before any slot runs.
 pub fn judge(script: &[u8]) -> Judged
-    ensures { λ r. ⌜ JudgeSays (now (script .entry)) r ⌝ }
+    ensures { λ r. ⌜ ScriptJudged (now (script .entry)) r ⌝ }
 {
     let mut at = 0;
     let mut first = true;
@@ -59,7 +59,7 @@ pub fn judge(script: &[u8]) -> Judged
             }
             Reading::Taken(command, length) => {
                 let next = at + length;
-                if codes::is_end(command) {
+                if script_codes::is_end(command) {
                     if next < script.len() {
                         return Judged {
                             number: 15,
@@ -80,9 +80,9 @@ pub fn judge(script: &[u8]) -> Judged
 
 // A command written at the start of the output, or 16.
 pub fn write(command: Command, output: &mut [u8]) -> Written
-    ensures { λ r. ⌜ WriteSays command (now (output .entry)) r (now (output .exit)) ⌝ }
+    ensures { λ r. ⌜ CommandWritten command (now (output .entry)) r (now (output .exit)) ⌝ }
 {
-    let c = codes::encode(command);
+    let c = script_codes::encode(command);
     let bytes = c.bytes;
     let length = c.length;
     if output.len() < length {
@@ -91,7 +91,7 @@ pub fn write(command: Command, output: &mut [u8]) -> Written
             length: 0,
         };
     }
-    codes::put(&bytes[..length], output);
+    script_codes::put(&bytes[..length], output);
     Written { number: 0, length }
 }
 

@@ -7,10 +7,11 @@ use native.Mathlib.Omega.{arith}
 use native.Mathlib.Nat.{mul-le-mul}
 use lib.Dec.{leb}
 use borrow.Author.Tests.{leb-true, le-leb}
-use Rattle.model.specs.Words.{between, allTrue}
+use Rattle.model.specs.Basics.{between, allTrue}
 use Rattle.model.specs.Sizes.{sizes, paperLimits, accepts, cycleTime, blockFor}
-use Rattle.model.proofs.Words.{by-test, between-facts, between-holds, and-both, all-true-at, all-below-facts}
-use Rattle.model.proofs.Limits.{Within, within-limits}
+use Rattle.model.proofs.basics.Tests.{by-test, between-facts, between-holds, and-both}
+use Rattle.model.proofs.basics.AllOf.{all-true-at, all-below-facts}
+use Rattle.model.proofs.basics.Limits.{Within, within-limits}
 use Rattle.sizing.specs.declared.Sizing.the-variants.{Block, NoBlock}
 use Rattle.sizing.specs.declared.Derived.the-variants.{Needs, NoSizes}
 use Rattle.sizing.specs.Says.{SizingSays, DerivedSays, memoryOf}
@@ -55,7 +56,7 @@ no-block rate grade h = record { number-is = rw out; block-is = rw out }
 
 pub a-block : (rate grade b : ℕ) → 1 ≤ rate → rate ≤ 100 → grade ≤ 15 → b ≤ 128 → b ≡ blockFor rate grade
     → SizingSays rate grade (Block b)
-a-block rate grade b low high last small e = record { number-is = rw yes-is; block-is = rw (yes-is, e) }
+a-block rate grade b low high last regs e = record { number-is = rw yes-is; block-is = rw (yes-is, e) }
   where
     yes-is : sizable rate grade ≡ true
     yes-is =

@@ -3,7 +3,7 @@ use mathlib.Core.Path.{_≡_}
 use mathlib.Core.Bool.{not}
 use mathlib.Core.Option.{Option, some, none}
 use Prim.Native.Nat.{ℕ}
-use Rattle.model.specs.Words.{choose, when}
+use Rattle.model.specs.Basics.{choose, when}
 use Rattle.model.specs.Sizes.{Sizes, sizes, paperLimits, accepts, lookahead, tailSize, headSize, storeBytes}
 use Rattle.model.specs.Sizes.{sizingNumber, sizedBlock}
 use Rattle.sizing.specs.declared.Sizing.{Sizing}

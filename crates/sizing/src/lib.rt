@@ -59,8 +59,8 @@ pub fn block_size(rate: usize, grade: usize) -> Sizing
 }
 
 // Whether sizes are within the limits.
-pub fn accepted(queues: usize, block: usize, blocks: usize) -> bool
-    ensures { λ r. ⌜ r ≡ accepts paperLimits (sizes queues block blocks) ⌝ }
+pub fn accepted(queues: usize, block: usize, depth: usize) -> bool
+    ensures { λ r. ⌜ r ≡ accepts paperLimits (sizes queues block depth) ⌝ }
 {
     if queues < 1 {
         return false;
@@ -74,10 +74,10 @@ pub fn accepted(queues: usize, block: usize, blocks: usize) -> bool
     if 128 < block {
         return false;
     }
-    if blocks < 1 {
+    if depth < 1 {
         return false;
     }
-    if 255 < blocks {
+    if 255 < depth {
         return false;
     }
     queues * (block - 1) <= 2016
@@ -98,16 +98,16 @@ pub enum Derived {
 }
 
 // What accepted sizes need.
-pub fn memory_sizes(queues: usize, block: usize, blocks: usize) -> Derived
-    ensures { λ r. ⌜ DerivedSays queues block blocks r ⌝ }
+pub fn memory_sizes(queues: usize, block: usize, depth: usize) -> Derived
+    ensures { λ r. ⌜ DerivedSays queues block depth r ⌝ }
 {
-    if accepted(queues, block, blocks) {
+    if accepted(queues, block, depth) {
         let span = queues * (block - 1);
         return Derived::Needs(Memory {
             lookahead: span + 1,
             tail: span + block,
             head: 2 * span + 1,
-            store: queues * blocks * block,
+            store: queues * depth * block,
         });
     }
     Derived::NoSizes

@@ -8,21 +8,21 @@ use native.Mathlib.Omega.{arith}
 use lib.ListN.{length, take, drop, replicate, length-append, length-take}
 use lib.Seq.{take-append-seam}
 use borrow.Author.Tests.{le-ltb}
-use Rattle.model.specs.Words.{choose}
-use Rattle.model.proofs.Words.{none-not-some, some-inj}
+use Rattle.model.specs.Basics.{choose}
+use Rattle.model.proofs.basics.Tests.{none-not-some, some-inj}
 use Rattle.io.specs.Counts.{Counts}
-use Rattle.lines.specs.Lines.{text}
-use Rattle.printout.specs.Run.{scriptLines, storeLent, programText, outputBound}
-use Rattle.printout.proofs.Program.{output-enough}
-use Rattle.runner.specs.declared.Ran.{Ran}
-use Rattle.runner.specs.declared.Ran.the-variants.{Printed, TooShort}
-use Rattle.runner.specs.Says.{printedIn, short, ScriptSays}
+use Rattle.script_lines.specs.Lines.{text}
+use Rattle.script_text.specs.Run.{scriptLines, storeLent, programText, outputBound}
+use Rattle.script_text.proofs.Program.{output-enough}
+use Rattle.script_runner.specs.declared.Ran.{Ran}
+use Rattle.script_runner.specs.declared.Ran.the-variants.{Printed, TooShort}
+use Rattle.script_runner.specs.Says.{printedIn, short, ScriptSays}
 
 pub counts : (n : ℕ) (xs : List ℕ) → n ≤ length xs → Counts n xs
 counts n xs within = (within, omega (arith, length-take n xs))
 
-module _ (script store output : List ℕ) (room : outputBound (length script) ≤ length output) (r : Ran)
-    (store′ output′ : List ℕ) (says : ScriptSays script store output r store′ output′) where
+module _ {script store output : List ℕ} (room : outputBound (length script) ≤ length output) {r : Ran}
+    {store′ output′ : List ℕ} (says : ScriptSays script store output r store′ output′) where
   abbrev printed : List ℕ
   printed = text (scriptLines script store)
 
@@ -35,7 +35,7 @@ module _ (script store output : List ℕ) (room : outputBound (length script) �
   pub not-too-short : r ≡ TooShort → ⊥
   not-too-short is = none-not-some (length printed) (sym (ap printedIn is) ∙ all-printed)
 
-  module _ (n : ℕ) (is : r ≡ Printed n) where
+  module _ {n : ℕ} (is : r ≡ Printed n) where
     n-is : n ≡ length printed
     n-is = some-inj n (length printed) (sym (ap printedIn is) ∙ all-printed)
 
@@ -58,10 +58,10 @@ module _ (script store output : List ℕ) (room : outputBound (length script) �
         ∙ take-append-seam printed (drop (length printed) output)
 
 -- What is printed on the store that the program lends is the program's text.
-pub on-its-store : (script store bytes : List ℕ) → store ≡ replicate storeLent 0
+pub on-its-store : (script : List ℕ) {store bytes : List ℕ} → store ≡ replicate storeLent 0
     → bytes ≡ text (scriptLines script store) → bytes ≡ programText script
 unfolding programText
-on-its-store script store bytes zeros is = is ∙ ap (λ (lent : List ℕ). text (scriptLines script lent)) zeros
+on-its-store script zeros is = is ∙ ap (λ (lent : List ℕ). text (scriptLines script lent)) zeros
 
 -- An output of 655,371 bytes or more has room for what any input prints.
 pub room-for-any : (n bytes lent : ℕ) → bytes ≡ lent → 655_371 ≤ bytes → outputBound n ≤ lent

@@ -1,11 +1,11 @@
 // The program: a script from standard input, run on a store of 65,536 bytes, and what it prints to standard output. It
-// decides nothing: `runner::run_script` has the text.
+// decides nothing: `script_runner::run_script` has the text.
 ghost use mathlib.Core.Path.{_≡_};
 ghost use Prim.Native.Nat.{_≤_, _<_};
 ghost use lib.ListN.{length, take};
 ghost use Rattle.io.specs.Counts.{Counts};
-ghost use Rattle.printout.specs.Run.{mostBytes, programText, outputBound};
-use runner::Ran;
+ghost use Rattle.script_text.specs.Run.{mostBytes, programText, outputBound};
+use script_runner::Ran;
 
 // One byte more than a script may have: a longer input need not be read on (`program-reads-enough`).
 const INPUT: usize = 65537;
@@ -56,7 +56,7 @@ fn print_script(script: &[u8], output: &mut [u8]) -> usize
     ensures { λ r. ⌜ Counts r (now (output .exit)) ⌝ }
 {
     let mut store = [0u8; STORE];
-    let ran = runner::run_script(script, &mut store, output);
+    let ran = script_runner::run_script(script, &mut store, output);
     match ran {
         Ran::Printed(n) => n,
         Ran::TooShort => 0,

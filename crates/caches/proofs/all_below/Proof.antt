@@ -4,9 +4,9 @@ use mathlib.Core.Bool.{true}
 use Prim.Native.Nat.{_-_, _≤_}
 use native.Mathlib.Omega.{arith}
 use borrow.Author.Needs.{needs}
-use Rattle.model.specs.Words.{allOf}
+use Rattle.model.specs.Basics.{allOf}
 use Rattle.model.specs.State.{byteBelow}
-use Rattle.caches.specs.Views.{bytesIn}
+use Rattle.layout.specs.Entries.{bytesIn}
 use Rattle.caches.proofs.Below.{none-below, more-below, one-beyond}
 use Rattle.caches.proofs.all_below.Statement.{statement}
 use Rattle.caches.proofs.all_below.Tie as tie

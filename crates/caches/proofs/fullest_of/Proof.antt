@@ -6,8 +6,8 @@ use Prim.Native.Nat.{_+_, _-_, _≤_}
 use native.Mathlib.Omega.{arith}
 use borrow.Author.Needs.{needs}
 use Rattle.model.specs.Slot.{fullest}
-use Rattle.caches.specs.Views.{countsIn}
-use Rattle.caches.specs.Says.{chosenIn}
+use Rattle.layout.specs.Entries.{countsIn}
+use Rattle.layout.specs.Calls.{chosenIn}
 use Rattle.caches.proofs.Fullest.{mostOf, fullest-next, fullest-stays}
 use Rattle.caches.proofs.fullest_of.Statement.{statement}
 use Rattle.caches.proofs.fullest_of.Tie as tie

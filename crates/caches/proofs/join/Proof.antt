@@ -1,7 +1,7 @@
 -- `caches::join` meets its contract: one number stored behind the first n is one byte more.
 use native.Mathlib.Omega.{arith}
 use borrow.Author.Needs.{needs}
-use Rattle.caches.proofs.Entries.{byte-stored}
+use Rattle.layout.proofs.Entries.{byte-stored}
 use Rattle.caches.proofs.join.Statement.{statement}
 use Rattle.caches.proofs.join.Tie as tie
 

@@ -4,9 +4,10 @@ use Prim.Native.Nat.{_-_, _/_, _≤_, _<_}
 use native.Mathlib.Omega.{arith}
 use lib.ListN.{getD}
 use borrow.Author.Needs.{needs}
-use Rattle.caches.specs.Views.{bytesIn}
-use Rattle.caches.specs.Says.{Tally}
-use Rattle.caches.proofs.Entries.{bytes-length}
+use Rattle.layout.specs.Lengths.{queuePlaces}
+use Rattle.layout.specs.Entries.{bytesIn}
+use Rattle.layout.specs.Counts.{Tally}
+use Rattle.layout.proofs.Entries.{bytes-length}
 use Rattle.caches.proofs.Below.{queue-below}
 use Rattle.caches.proofs.Tallies.{count-le, tally-starts, tally-at, tally-one}
 use Rattle.caches.proofs.tally.Statement.{statement}
@@ -29,10 +30,10 @@ shared-slice-read-q c = search needs
 
 -- The queue of the entry that a turn reads has a count.
 queue-small : (c : tie.After-shared-slice-known Inv-loop μ-loop)
-    → getD (c .before .before .before .args .entries .now) (c .before .before .loop .i) 0 / 256 < 64
+    → getD (c .before .before .before .args .entries .now) (c .before .before .loop .i) 0 / 256 < queuePlaces
 queue-small c =
     let start = c .before .before .before in
-    queue-below 64 (start .args .entries .now) (start .args .n) (c .before .before .loop .i)
+    queue-below queuePlaces (start .args .entries .now) (start .args .n) (c .before .before .loop .i)
     (start .pre .1)
     (start .pre .2)
     (omega arith)

@@ -8,10 +8,10 @@ use native.Mathlib.Omega.{arith}
 use lib.ListN.{getD}
 use borrow.Author.Needs.{needs}
 use borrow.Author.Tests.{leb-true, leb-false, lt-ltb, le-ltb}
-use Rattle.model.specs.Words.{allOf}
+use Rattle.model.specs.Basics.{allOf}
 use Rattle.model.specs.State.{cellBelow}
-use Rattle.lookahead.specs.Views.{cellOf, cellsIn}
-use Rattle.lookahead.proofs.Cells.{queueAt, no-cells, empty-below, cell-below, not-all-cells, all-cells-more}
+use Rattle.layout.specs.Entries.{cellOf, cellsIn}
+use Rattle.layout.proofs.Cells.{queueAt, no-cells, empty-below, cell-below, not-all-cells, all-cells-more}
 use Rattle.lookahead.proofs.all_below.Statement.{statement}
 use Rattle.lookahead.proofs.all_below.Tie as tie
 

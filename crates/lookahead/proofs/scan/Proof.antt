@@ -4,7 +4,8 @@ use Prim.Native.Nat.{_-_, _<_}
 use mathlib.Core.Logic.{⊎-elim}
 use native.Mathlib.Omega.{arith}
 use borrow.Author.Needs.{needs}
-use Rattle.lookahead.proofs.Cells.{queueAt, queue-below}
+use Rattle.layout.specs.Lengths.{queuePlaces}
+use Rattle.layout.proofs.Cells.{queueAt, queue-below}
 use Rattle.lookahead.proofs.Turns.{ScannedTo, scan-ends, scan-skips, scan-covers, scan-lacks}
 use Rattle.lookahead.proofs.scan.Statement.{statement}
 use Rattle.lookahead.proofs.scan.Tie as tie
@@ -17,10 +18,10 @@ abbrev μ-loop : tie.MeasureT-loop
 
 -- A cell that the scan comes to and that is not empty is of a queue below 64.
 its-queue : (c : tie.Then2 Inv-loop μ-loop)
-    → queueAt (c .before .before .before .before .args .cells .now) (c .before .before .before .loop .i) < 64
+    → queueAt (c .before .before .before .before .args .cells .now) (c .before .before .before .loop .i) < queuePlaces
 its-queue c =
     let start = c .before .before .before .before in
-    queue-below (start .args .cells .now) (start .pre .1) (omega arith) 64 (start .pre .2) (omega arith)
+    queue-below (start .args .cells .now) (start .pre .1) (omega arith) queuePlaces (start .pre .2) (omega arith)
 
 loop-holds : tie.Need-loop-holds Inv-loop μ-loop
 loop-holds c = search needs

@@ -3,6 +3,7 @@ use Prim.Native.Nat.{_/_, _%_, _≤_, _<_}
 use native.Mathlib.Omega.{arith}
 use lib.ListN.{getD}
 use borrow.Author.Needs.{needs}
+use Rattle.layout.specs.Lengths.{queuePlaces}
 use Rattle.lookahead.proofs.Spending.{spendable-at, spends-nothing, spends-one}
 use Rattle.lookahead.proofs.spend.Statement.{statement}
 use Rattle.lookahead.proofs.spend.Tie as tie
@@ -12,7 +13,7 @@ cast-q c = search needs
 
 -- An Owed cell's queue, and that it has one to take.
 there : (c : tie.Then1)
-    → (c .before .args .leaving / 256 % 256 < 64) × (1 ≤ getD (c .before .args .counts .now) (c .before .args
+    → (c .before .args .leaving / 256 % 256 < queuePlaces) × (1 ≤ getD (c .before .args .counts .now) (c .before .args
     .leaving / 256 % 256) 0)
 there c = spendable-at (c .before .args .counts .now) (c .before .args .leaving) (c .before .pre .1) (c .if1 .taken)
 

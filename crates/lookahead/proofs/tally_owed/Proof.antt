@@ -4,9 +4,9 @@ use Prim.Native.Nat.{_-_, _<_}
 use mathlib.Core.Logic.{⊎-elim}
 use native.Mathlib.Omega.{arith}
 use borrow.Author.Needs.{needs}
-use Rattle.lookahead.proofs.Cells.{queueAt, queue-below}
-use Rattle.lookahead.proofs.Turns.{TalliedTo, tally-starts, tally-counts, tally-skips, tally-ends}
-use Rattle.lookahead.proofs.Turns.{count-at-most}
+use Rattle.layout.specs.Lengths.{queuePlaces}
+use Rattle.layout.proofs.Cells.{queueAt, queue-below}
+use Rattle.lookahead.proofs.Turns.{TalliedTo, tally-starts, tally-counts, tally-skips, tally-ends, count-at-most}
 use Rattle.lookahead.proofs.tally_owed.Statement.{statement}
 use Rattle.lookahead.proofs.tally_owed.Tie as tie
 
@@ -18,10 +18,11 @@ abbrev μ-loop : tie.MeasureT-loop
 
 -- An Owed cell that is counted is of a queue below 64.
 owed-queue : (c : tie.Then1 Inv-loop μ-loop)
-    → queueAt (c .before .before .before .before .args .cells .now) (c .before .before .before .loop .i) < 64
+    → queueAt (c .before .before .before .before .args .cells .now) (c .before .before .before .loop .i) < queuePlaces
 owed-queue c =
     let start = c .before .before .before .before in
-    queue-below (start .args .cells .now) (start .pre .1) (c .before .before .loop-test .taken) 64 (start .pre .2)
+    queue-below (start .args .cells .now) (start .pre .1) (c .before .before .loop-test .taken) queuePlaces
+    (start .pre .2)
     (omega arith)
 
 loop-holds : tie.Need-loop-holds Inv-loop μ-loop

@@ -5,13 +5,12 @@ use Prim.Native.Nat.{_-_}
 use native.Mathlib.Omega.{arith}
 use borrow.Author.Needs.{needs}
 use lib.ListN.{length, drop}
-use Rattle.commands.specs.Scripts.{refused, taken, readCommand}
-use Rattle.commands.specs.Values.{commandIn}
-use Rattle.commands.proofs.Judging.{moves-on}
+use Rattle.script_commands.specs.Scripts.{refused, taken, readCommand}
+use Rattle.script_commands.specs.Values.{commandIn}
+use Rattle.script_commands.proofs.Judging.{moves-on}
 use Rattle.scripts.specs.Says.{readingIn}
 use Rattle.scripts.proofs.Parts.{rest-from}
-use Rattle.scripts.proofs.Turns.{JudgedTo, judge-starts, judge-refuses, judge-goes-on, judge-ends}
-use Rattle.scripts.proofs.Turns.{judge-follows}
+use Rattle.scripts.proofs.Turns.{JudgedTo, judge-starts, judge-refuses, judge-goes-on, judge-ends, judge-follows}
 use Rattle.scripts.proofs.judge.Statement.{statement}
 use Rattle.scripts.proofs.judge.Tie as tie
 

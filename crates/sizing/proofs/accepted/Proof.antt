@@ -8,32 +8,32 @@ use Rattle.sizing.proofs.accepted.Tie as tie
 returns : tie.Need-returns
 returns c =
     let a = c .before .args in
-    sym (accepts-not (a .queues) (a .block) (a .blocks) (λ f. omega arith))
+    sym (accepts-not (a .queues) (a .block) (a .depth) (λ f. omega arith))
 
 returns-2 : tie.Need-returns-2
 returns-2 c =
     let a = c .before .before .args in
-    sym (accepts-not (a .queues) (a .block) (a .blocks) (λ f. omega arith))
+    sym (accepts-not (a .queues) (a .block) (a .depth) (λ f. omega arith))
 
 returns-3 : tie.Need-returns-3
 returns-3 c =
     let a = c .before .before .before .args in
-    sym (accepts-not (a .queues) (a .block) (a .blocks) (λ f. omega arith))
+    sym (accepts-not (a .queues) (a .block) (a .depth) (λ f. omega arith))
 
 returns-4 : tie.Need-returns-4
 returns-4 c =
     let a = c .before .before .before .before .args in
-    sym (accepts-not (a .queues) (a .block) (a .blocks) (λ f. omega arith))
+    sym (accepts-not (a .queues) (a .block) (a .depth) (λ f. omega arith))
 
 returns-5 : tie.Need-returns-5
 returns-5 c =
     let a = c .before .before .before .before .before .args in
-    sym (accepts-not (a .queues) (a .block) (a .blocks) (λ f. omega arith))
+    sym (accepts-not (a .queues) (a .block) (a .depth) (λ f. omega arith))
 
 returns-6 : tie.Need-returns-6
 returns-6 c =
     let a = c .before .before .before .before .before .before .args in
-    sym (accepts-not (a .queues) (a .block) (a .blocks) (λ f. omega arith))
+    sym (accepts-not (a .queues) (a .block) (a .depth) (λ f. omega arith))
 
 mul-result : tie.Need-mul-result
 mul-result c =
@@ -43,7 +43,7 @@ mul-result c =
 returns-7 : tie.Need-returns-7
 returns-7 c =
     let a = c .before .before .before .before .before .before .args in
-    sym (accepts-span (a .queues) (a .block) (a .blocks) (omega arith) (omega arith) (omega arith) (omega arith)
+    sym (accepts-span (a .queues) (a .block) (a .depth) (omega arith) (omega arith) (omega arith) (omega arith)
     (omega arith) (omega arith))
 
 pub accepted-spec : {M : Type 1} → statement M

@@ -2,7 +2,7 @@
 use mathlib.Core.Path.{sym, _∙_}
 use native.Mathlib.Omega.{arith}
 use Rattle.model.specs.Sizes.{sizes, paperLimits}
-use Rattle.model.proofs.Limits.{Within, within-limits, row-within, store-within}
+use Rattle.model.proofs.basics.Limits.{Within, within-limits, row-within, store-within}
 use Rattle.sizing.proofs.Laws.{has-sizes, no-sizes}
 use borrow.Author.Needs.{needs}
 use Rattle.sizing.proofs.memory_sizes.Statement.{statement}
@@ -13,10 +13,10 @@ accepted-requires c κs = search needs
 
 -- Accepted sizes are within the limits, so that every number on the way fits.
 fits : (c : tie.Then1)
-    → let a = c .before .before .args in Within paperLimits (sizes (a .queues) (a .block) (a .blocks))
+    → let a = c .before .before .args in Within paperLimits (sizes (a .queues) (a .block) (a .depth))
 fits c =
     let a = c .before .before .args in
-    within-limits paperLimits (sizes (a .queues) (a .block) (a .blocks))
+    within-limits paperLimits (sizes (a .queues) (a .block) (a .depth))
     (sym (c .before .accepted .ensures) ∙ c .if1 .taken)
 
 sub-span : tie.Need-sub-span
@@ -46,12 +46,12 @@ mul-t11 c = record { fits = omega (arith, store-within paperLimits _ (fits c)) }
 returns : tie.Need-returns
 returns c =
     let a = c .before .before .args in
-    has-sizes (a .queues) (a .block) (a .blocks) (sym (c .before .accepted .ensures) ∙ c .if1 .taken)
+    has-sizes (a .queues) (a .block) (a .depth) (sym (c .before .accepted .ensures) ∙ c .if1 .taken)
 
 returns-2 : tie.Need-returns-2
 returns-2 c =
     let a = c .before .before .args in
-    no-sizes (a .queues) (a .block) (a .blocks) (sym (c .before .accepted .ensures) ∙ c .if1 .left)
+    no-sizes (a .queues) (a .block) (a .depth) (sym (c .before .accepted .ensures) ∙ c .if1 .left)
 
 pub memory-sizes-spec : {M : Type 1} → statement M
 memory-sizes-spec =

@@ -6,6 +6,16 @@ use Rattle.slots.proofs.Within.{not-too-short, printed-within, printed-
 use Rattle.slots.proofs.print_script.Statement.{statement}
 use Rattle.slots.proofs.print_script.Tie as tie
 
+-- The way back through the code: from either arm to behind the run, and to the start.
+abbrev start : tie.After-run-script → tie.Start
+start c = c .before .before .before .before .before
+
+abbrev run-to-end : tie.After-ran → tie.After-run-script
+run-to-end c = c .before .before .before .before .before
+
+abbrev run-too-short : tie.After-enum-told → tie.After-run-script
+run-too-short c = c .before .before .before .before .before
+
 slice-aggregate-run-script : tie.Need-slice-aggregate-run-script
 slice-aggregate-run-script c = search needs
 
@@ -23,21 +33,20 @@ same-length c = search needs
 
 returns : tie.Need-returns
 returns c =
-    let called = c .before .before .before .before .before .before .run-script in
-    let s = c .before .before .before .before .before .before .before .before .before .before .before in
-    let is = c .before .ran .given .1 in (
-      on-its-store _ _ _ refl (printed-is _ _ _ (s .pre) _ _ _ (called .ensures) _ is),
-      printed-within _ _ _ (s .pre) _ _ _ (called .ensures) _ is,
-    )
+    let printed = c .before in
+    let called = run-to-end printed in
+    let s = start called in
+    let says = called .run-script .ensures in
+    let is = printed .ran .given .1 in
+    (on-its-store (s .args .script .now) refl (printed-is (s .pre) says is), printed-within (s .pre) says is)
 
 same-length-2 : tie.Need-same-length-2
 same-length-2 c = search needs
 
 returns-2 : tie.Need-returns-2
 returns-2 c =
-    let called = c .before .before .before .before .before .run-script in
-    let s = c .before .before .before .before .before .before .before .before .before .before in
-    absurd (not-too-short _ _ _ (s .pre) _ _ _ (called .ensures) (c .enum-told .given .1))
+    let called = run-too-short c in
+    absurd (not-too-short (start called .pre) (called .run-script .ensures) (c .enum-told .given .1))
 
 pub print-script-spec : {M : Type 1} → statement M
 print-script-spec =

@@ -1,7 +1,7 @@
 -- `State::arrive` meets its contract: the tail's fill lies within its array, and the mark is the larger of the two.
 use native.Mathlib.Omega.{arith}
 use borrow.Author.Needs.{needs}
-use Rattle.buffer.proofs.Steps.{tail-in, arrived-state}
+use Rattle.buffer.proofs.OneStep.{tail-in, arrived-state}
 use Rattle.buffer.proofs.State.arrive.Statement.{statement}
 use Rattle.buffer.proofs.State.arrive.Tie as tie
 

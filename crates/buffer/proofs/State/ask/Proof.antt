@@ -2,7 +2,7 @@
 use mathlib.Core.Path.{sym, _∙_}
 use native.Mathlib.Omega.{arith}
 use borrow.Author.Needs.{needs}
-use Rattle.buffer.proofs.Steps.{limits, tail-in, asked-state}
+use Rattle.buffer.proofs.OneStep.{limits, tail-in, asked-state}
 use Rattle.buffer.proofs.State.ask.Statement.{statement}
 use Rattle.buffer.proofs.State.ask.Tie as tie
 

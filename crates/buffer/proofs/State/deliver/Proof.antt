@@ -1,7 +1,7 @@
 -- `State::deliver` meets its contract: the first number is the oldest cell, and the one that comes in is 0.
 use native.Mathlib.Omega.{arith}
 use borrow.Author.Needs.{needs}
-use Rattle.buffer.proofs.Steps.{limits, head-in, cells-in, byte-to-deliver, delivered, delivered-state}
+use Rattle.buffer.proofs.OneStep.{limits, head-in, cells-in, byte-to-deliver, delivered, delivered-state}
 use Rattle.buffer.proofs.State.deliver.Statement.{statement}
 use Rattle.buffer.proofs.State.deliver.Tie as tie
 

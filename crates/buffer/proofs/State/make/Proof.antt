@@ -15,7 +15,7 @@ returns : tie.Need-returns
 returns c =
     let start = c .before .before .before in
     let a = start .args in
-    made-fresh (a .queues) (a .block) (a .blocks) _ (sym (c .before .before .accepted .ensures) ∙ c .before .if1
+    made-fresh (a .queues) (a .block) (a .depth) _ (sym (c .before .before .accepted .ensures) ∙ c .before .if1
     .taken) refl
     (c .fresh .ensures)
 
@@ -26,7 +26,7 @@ returns-2 : tie.Need-returns-2
 returns-2 c =
     let start = c .before .before .before in
     let a = start .args in
-    made-none (a .queues) (a .block) (a .blocks) _ (sym (c .before .before .accepted .ensures) ∙ c .before .if1
+    made-none (a .queues) (a .block) (a .depth) _ (sym (c .before .before .accepted .ensures) ∙ c .before .if1
     .left) refl
     (c .fresh2 .ensures)
 

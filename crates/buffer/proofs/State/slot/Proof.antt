@@ -1,7 +1,6 @@
 -- `State::slot` meets its contract: a slot on its arrays, and the record that they make; on a refusal they are as
 -- they came.
 use borrow.Author.Needs.{needs}
-use Rattle.parts.specs.Calls.{callIn}
 use Rattle.buffer.proofs.Promises.{slot-says}
 use Rattle.buffer.proofs.State.slot.Statement.{statement}
 use Rattle.buffer.proofs.State.slot.Tie as tie
@@ -13,11 +12,7 @@ same-length : tie.Need-same-length
 same-length c = search needs
 
 returns : tie.Need-returns
-returns c =
-    let s = c .before .before .before .before .before .before .before .before .before .before .before .before .before
-    .before .before .before .before in
-    slot-says (s .args .self) (s .args .store .now) (callIn (s .args .arrival) (s .args .request)) _ _ _
-    (c .before .before .before .slot .ensures)
+returns c = let done = c .before .before .before in slot-says (done .slot .ensures)
 
 pub slot-spec : {M : Type 1} → statement M
 slot-spec = tie.close (tie.spec slot-requires same-length returns)

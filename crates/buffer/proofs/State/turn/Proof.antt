@@ -1,6 +1,6 @@
 -- `State::turn` meets its contract: step 5 is the turn of the phase, and nothing else of the state changes.
 use borrow.Author.Needs.{needs}
-use Rattle.buffer.proofs.Steps.{turned}
+use Rattle.buffer.proofs.OneStep.{turned}
 use Rattle.buffer.proofs.State.turn.Statement.{statement}
 use Rattle.buffer.proofs.State.turn.Tie as tie
 

@@ -1,0 +1,135 @@
+// "The state goes into a slot and is handed back by it": the steps of a slot as methods on the state, each by value and
+// each of the whole state.
+ghost use mathlib.Core.Path.{_≡_};
+ghost use Prim.Native.Nat.{_+_, _-_, _*_, _<_, _≤_};
+ghost use lib.ListN.{length};
+ghost use Rattle.model.specs.Slot.{delivery, afterArrival, afterRequest, afterWrite, storeWritten, afterRead};
+ghost use Rattle.model.specs.Slot.{afterPhase};
+ghost use Rattle.layout.specs.Calls.{chosenIn, arrivalIn, requestIn, deliveryIn};
+ghost use Rattle.lookahead.specs.Says.{Shifted};
+ghost use Rattle.buffer.specs.Says.{stateOf};
+ghost use Rattle.buffer.specs.OneStep.{opened, closed, CachesFit, DeliverAsks, AskAsks, WriteAsks, ReadAsks};
+use crate::EMPTY;
+use crate::State;
+use layout::Arrival;
+use layout::CellArray;
+use layout::Chosen;
+use layout::Delivery;
+use layout::Request;
+
+// What the first step gives: the state, and the byte that its oldest cell delivered.
+pub struct Delivered {
+    pub state: State,
+    pub delivery: Delivery,
+}
+
+// The oldest of l cells leaves, and an empty one comes in as the youngest.
+fn shift_in_empty(cells: &mut CellArray, l: usize)
+    requires { ⌜ (1 ≤ l) × (l ≤ length (now cells)) ⌝ }
+    ensures { λ _. ⌜ Shifted l 0 (now (cells .entry)) (now (cells .exit)) ⌝ }
+{
+    lookahead::shift(cells, l, EMPTY);
+}
+
+impl State {
+    // 1. "The oldest cell leaves": what it delivers, and the state with an empty youngest cell.
+    pub fn deliver(mut self) -> Delivered
+        requires { ⌜ DeliverAsks (stateOf self) ⌝ }
+        ensures { λ r. ⌜ (stateOf (r .state) ≡ opened (stateOf self))
+            × (deliveryIn (r .delivery) ≡ delivery (stateOf self)) ⌝ }
+    {
+        let cell = self.cells[0];
+        let fill = self.regs.head_fill;
+        let gave = slot_steps::deliver(&mut self.head, fill, cell);
+        let l = self.regs.queues * (self.regs.block - 1) + 1;
+        shift_in_empty(&mut self.cells, l);
+        self.regs.head_fill = gave.fill;
+        let delivery = gave.delivery;
+        Delivered {
+            state: self,
+            delivery: delivery,
+        }
+    }
+
+    // 2. "The arriving byte joins the tail." The mark rises with the fill.
+    pub fn arrive(mut self, arrival: Arrival) -> State
+        requires { ⌜ CachesFit (stateOf self) ⌝ }
+        ensures { λ r. ⌜ stateOf r ≡ afterArrival (arrivalIn arrival) (stateOf self) ⌝ }
+    {
+        let fill = self.regs.tail_fill;
+        let joined = slot_steps::arrive(&mut self.tail, fill, arrival);
+        self.regs.tail_fill = joined;
+        self.regs.tail_mark = minmax::larger(self.regs.tail_mark, joined);
+        self
+    }
+
+    // 3. "The request takes the youngest cell": Owed where `owes` says so, else Held.
+    pub fn ask(mut self, owes: bool, request: Request) -> State
+        requires { ⌜ AskAsks (stateOf self) owes (requestIn request) ⌝ }
+        ensures { λ r. ⌜ stateOf r ≡ afterRequest (requestIn request) (closed (stateOf self)) ⌝ }
+    {
+        let fill = self.regs.tail_fill;
+        let asked = slot_steps::ask(&mut self.tail, fill, owes, request);
+        let youngest = self.regs.queues * (self.regs.block - 1);
+        self.cells[youngest] = asked.cell;
+        self.regs.tail_fill = asked.fill;
+        self
+    }
+
+    // 4. "First a write": the chosen queue's b oldest tail bytes go to the next block of its ring.
+    pub fn write(mut self, written: Chosen, store: &mut [u8]) -> State
+        requires { ⌜ WriteAsks (stateOf self) (chosenIn written) (now store) ⌝ }
+        ensures { λ r. ⌜ (stateOf r ≡ afterWrite (chosenIn written) (stateOf self))
+            × (now (store .exit) ≡ storeWritten (chosenIn written) (stateOf self) (now (store .entry))) ⌝ }
+    {
+        let regs = self.regs;
+        let firsts = self.firsts;
+        let mut stored = self.stored;
+        let fill = slot_steps::write(
+            &mut self.tail,
+            &firsts,
+            &mut stored,
+            regs,
+            regs.tail_fill,
+            written,
+            store,
+        );
+        self.stored = stored;
+        self.regs.tail_fill = fill;
+        self
+    }
+
+    // 4. "Then a read": the chosen queue's first block goes to the head. The mark rises with the fill.
+    pub fn read(mut self, chosen: Chosen, store: &[u8]) -> State
+        requires { ⌜ ReadAsks (stateOf self) (chosenIn chosen) (now store) ⌝ }
+        ensures { λ r. ⌜ stateOf r ≡ afterRead (chosenIn chosen) (stateOf self) (now (store .entry)) ⌝ }
+    {
+        let regs = self.regs;
+        let mut firsts = self.firsts;
+        let mut stored = self.stored;
+        let fill = slot_steps::read(
+            &mut self.head,
+            &mut firsts,
+            &mut stored,
+            regs,
+            regs.head_fill,
+            chosen,
+            store,
+        );
+        self.firsts = firsts;
+        self.stored = stored;
+        self.regs.head_fill = fill;
+        self.regs.head_mark = minmax::larger(self.regs.head_mark, fill);
+        self
+    }
+
+    // 5. "The phase rises by one, and after b - 1 comes 0."
+    pub fn turn(mut self) -> State
+        requires { ⌜ stateOf self .phase < stateOf self .sizes .b ⌝ }
+        ensures { λ r. ⌜ stateOf r ≡ afterPhase (stateOf self) ⌝ }
+    {
+        let next = slot_steps::next_phase(self.regs.phase, self.regs.block);
+        self.regs.phase = next;
+        self
+    }
+}

@@ -1,0 +1,87 @@
+-- The six steps of a slot as methods, called in turn, told by the three choices: whoever calls them so gets the slot.
+-- It cites the contracts alone, so that it holds of whatever meets them.
+use mathlib.Core.Path.{_≡_}
+use mathlib.Core.Bool.{Bool}
+use mathlib.Core.List.{List}
+use mathlib.Core.Option.{some}
+use Prim.Native.Nat.{ℕ, _<_}
+use Rattle.model.specs.Sizes.{paper}
+use Rattle.model.specs.State.{State}
+use Rattle.model.specs.Slot.{Answer, delivery, afterArrival, isOwed, afterRequest, queueToWrite, afterWrite}
+use Rattle.model.specs.Slot.{storeWritten, queueToRead, afterRead, afterPhase, refusal, slot}
+use Rattle.layout.specs.declared.Chosen.{Chosen}
+use Rattle.layout.specs.Calls.{chosenIn, arrivalIn, requestIn, deliveryIn, callIn}
+use Rattle.layout.specs.declared.Arrival.{Arrival}
+use Rattle.layout.specs.declared.Request.{Request}
+use Rattle.layout.specs.declared.Delivery.{Delivery}
+use Rattle.buffer.specs.declared.State as code
+use Rattle.buffer.specs.Says.{stateOf}
+use Rattle.buffer.specs.OneStep.{opened, closed, CachesFit, DeliverAsks, AskAsks, WriteAsks, ReadAsks}
+
+-- What the nine calls gave, in their order: the state of each step, and what the choices told. The store is as the
+-- write leaves it.
+pub record StepAnswers : Type 0 where
+  pub delivered : Delivery
+  pub after-deliver : code.State
+  pub after-arrive : code.State
+  pub owing : Bool
+  pub after-ask : code.State
+  pub written : Chosen
+  pub after-write : code.State
+  pub store : List ℕ
+  pub readQueue : Chosen
+  pub after-read : code.State
+  pub after-turn : code.State
+
+-- Each call meets its contract: a step gives what it promises where it finds what it asks. Each choice is made on the
+-- state at hand: whether the request is Owed after the arrival, the queue to write after the request, the queue to
+-- read after the write.
+pub record ByContract (s : code.State) (store : List ℕ) (arrival : Arrival) (request : Request)
+    (g : StepAnswers) : Type 0
+  where
+    pub deliver-says : DeliverAsks (stateOf s)
+        → (stateOf (g .after-deliver) ≡ opened (stateOf s)) × (deliveryIn (g .delivered) ≡ delivery (stateOf s))
+    pub arrive-says : CachesFit (stateOf (g .after-deliver))
+        → stateOf (g .after-arrive) ≡ afterArrival (arrivalIn arrival) (stateOf (g .after-deliver))
+    pub owes-says : (q : ℕ) → requestIn request ≡ some q → g .owing ≡ isOwed (stateOf (g .after-arrive)) q
+    pub ask-says : AskAsks (stateOf (g .after-arrive)) (g .owing) (requestIn request)
+        → stateOf (g .after-ask) ≡ afterRequest (requestIn request) (closed (stateOf (g .after-arrive)))
+    pub to-write-says : chosenIn (g .written) ≡ queueToWrite (stateOf (g .after-ask))
+    pub write-says : WriteAsks (stateOf (g .after-ask)) (chosenIn (g .written)) store
+        → (stateOf (g .after-write) ≡ afterWrite (chosenIn (g .written)) (stateOf (g .after-ask)))
+        × (g .store ≡ storeWritten (chosenIn (g .written)) (stateOf (g .after-ask)) store)
+    pub to-read-says : chosenIn (g .readQueue) ≡ queueToRead (stateOf (g .after-write))
+    pub read-says : ReadAsks (stateOf (g .after-write)) (chosenIn (g .readQueue)) (g .store)
+        → stateOf (g .after-read) ≡ afterRead (chosenIn (g .readQueue)) (stateOf (g .after-write)) (g .store)
+    pub turn-says : stateOf (g .after-read) .phase < stateOf (g .after-read) .sizes .b
+        → stateOf (g .after-turn) ≡ afterPhase (stateOf (g .after-read))
+
+-- The answer that the calls make together.
+abbrev pub answerOfSteps : StepAnswers → Answer
+answerOfSteps g = record {
+  number = 0;
+  delivered = deliveryIn (g .delivered);
+  written = chosenIn (g .written);
+  read = chosenIn (g .readQueue);
+  state = stateOf (g .after-turn);
+  store = g .store;
+}
+
+-- Every step finds what it asks, and the answer is the slot's, marks included.
+pub record MakesTheSlot (s : code.State) (store : List ℕ) (arrival : Arrival) (request : Request)
+    (g : StepAnswers) : Type 0
+  where
+    pub deliver-can : DeliverAsks (stateOf s)
+    pub arrive-can : CachesFit (stateOf (g .after-deliver))
+    pub ask-can : AskAsks (stateOf (g .after-arrive)) (g .owing) (requestIn request)
+    pub write-can : WriteAsks (stateOf (g .after-ask)) (chosenIn (g .written)) store
+    pub read-can : ReadAsks (stateOf (g .after-write)) (chosenIn (g .readQueue)) (g .store)
+    pub turn-can : stateOf (g .after-read) .phase < stateOf (g .after-read) .sizes .b
+    pub answer-is : answerOfSteps g ≡ slot paper (stateOf s) store (callIn arrival request)
+
+-- Of any call that the slot does not refuse: so the state keeps the rules and the store is long enough.
+abbrev pub StepsInTurn : Type 0
+StepsInTurn =
+    (s : code.State) (store : List ℕ) (arrival : Arrival) (request : Request) (g : StepAnswers)
+    → refusal paper (stateOf s) store (callIn arrival request) ≡ 0
+    → ByContract s store arrival request g → MakesTheSlot s store arrival request g

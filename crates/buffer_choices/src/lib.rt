@@ -1,0 +1,195 @@
+// What the steps of a slot must be told, of any state by value: whether a request is Owed, the queue to write and the
+// queue to read. With the six steps in turn they make the slot. Sizes, fills and queue numbers may be anything: every
+// number is read as some state.
+ghost use mathlib.Core.Path.{_≡_};
+ghost use mathlib.Core.Option.{some};
+ghost use Prim.Native.Nat.{ℕ, _+_, _-_, _*_, _≤_, min};
+ghost use lib.Dec.{eqb};
+ghost use lib.ListN.{length};
+ghost use Rattle.model.specs.Sizes.{paper};
+ghost use Rattle.model.specs.Slot.{isOwed, fullest, queueToWrite, refillQueue, queueToRead, refusal, slot};
+ghost use Rattle.layout.specs.Lengths.{headPlaces, queuePlaces};
+ghost use Rattle.layout.specs.Entries.{bytesIn, countsIn, cellsIn};
+ghost use Rattle.layout.specs.Calls.{chosenIn, requestIn, callIn};
+ghost use Rattle.layout.specs.Figures.{blocksIn};
+ghost use Rattle.buffer.specs.Says.{stateOf, answerOf};
+ghost use Rattle.buffer_choices.specs.Says.{TallyOfAll};
+ghost use Rattle.buffer_choices.specs.InTurn.{StepsInTurn};
+use buffer::Slotted;
+use buffer::State;
+use layout::Arrival;
+use layout::Chosen;
+use layout::HEAD_PLACES;
+use layout::OWED;
+use layout::QUEUE_PLACES;
+use layout::Request;
+use layout::TAIL_PLACES;
+
+// "If the phase is b - 1."
+fn moves_now(phase: usize, block: usize) -> bool
+    ensures { λ r. ⌜ r ≡ eqb phase (block - 1) ⌝ }
+{
+    if block == 0 {
+        return phase == 0;
+    }
+    phase == block - 1
+}
+
+// Of each queue that an entry can name its bytes among the first n entries, at most 4,034.
+fn tally(entries: &[u16], n: usize) -> [u16; 256]
+    requires { ⌜ (n ≤ length (now entries)) × (n ≤ headPlaces) ⌝ }
+    ensures { λ r. ⌜ TallyOfAll r (bytesIn n (now (entries .entry))) ⌝ }
+{
+    let mut counts = [0u16; 256];
+    let mut i: usize = 0;
+    while i < n {
+        let q = (entries[i] / 256) as usize;
+        counts[q] = counts[q] + 1;
+        i += 1;
+    }
+    counts
+}
+
+// "Among queues with b tail bytes or more, the one with most (lowest number on a tie)": a queue is taken where it has
+// `least` bytes or more, which is b at first, and then one more than the fullest so far.
+fn fullest_of(counts: [u16; 256], queues: usize, b: usize) -> Chosen
+    ensures { λ r. ⌜ chosenIn r ≡ fullest b (countsIn counts) queues ⌝ }
+{
+    let n = minmax::smaller(queues, 256);
+    let mut found = Chosen::Nothing;
+    let mut least = b;
+    let mut i: usize = 0;
+    while i < n {
+        let bytes = counts[i] as usize;
+        if least <= bytes {
+            found = Chosen::Queue(i as u8);
+            least = bytes + 1;
+        }
+        i += 1;
+    }
+    found
+}
+
+// "Scan the cells from the oldest and stop at the first Owed cell that its queue's head bytes do not cover."
+fn scan(cells: &[u32], l: usize, credits: [u16; 256]) -> Chosen
+    requires { ⌜ l ≤ length (now cells) ⌝ }
+    ensures { λ r. ⌜ chosenIn r ≡ refillQueue (countsIn credits) (cellsIn l (now (cells .entry))) ⌝ }
+{
+    let mut left = credits;
+    let mut i: usize = 0;
+    while i < l {
+        let cell = cells[i];
+        if OWED <= cell {
+            let q = (cell / 256 % 256) as usize;
+            if left[q] == 0 {
+                return Chosen::Queue(q as u8);
+            }
+            left[q] = left[q] - 1;
+        }
+        i += 1;
+    }
+    Chosen::Nothing
+}
+
+// The bytes of a queue in the slow store, b × blocks. A block counts for 2,018 bytes at most, which is more than there
+// are cells.
+fn stored_bytes(stored: &[u8], queues: usize, block: usize, queue: u8) -> u32
+    requires { ⌜ length (now stored) ≡ queuePlaces ⌝ }
+    ensures { λ r. ⌜ (r ≡ min block 2018 * blocksIn queues (now (stored .entry)) queue) × (r ≤ 514590) ⌝ }
+{
+    let q = queue as usize;
+    if queues <= q {
+        return 0;
+    }
+    if QUEUE_PLACES <= q {
+        return 0;
+    }
+    (minmax::smaller(block, 2018) as u32) * (stored[q] as u32)
+}
+
+// 3. "It is Owed if the queue's head bytes + b × blocks exceed its Owed cells": its margin, which is its head bytes
+// less its Owed cells, and b × blocks are above zero.
+pub fn owes(state: State, queue: u8) -> bool
+    ensures { λ r. ⌜ r ≡ isOwed (stateOf state) queue ⌝ }
+{
+    let margin = buffer_margin::margin(
+        &state.head,
+        &state.cells,
+        state.regs.head_fill,
+        state.regs.queues,
+        state.regs.block,
+        queue,
+    );
+    let bytes = stored_bytes(&state.stored, state.regs.queues, state.regs.block, queue);
+    0 < margin + (bytes as i32)
+}
+
+// 4. "First a write": the queue to write, or none.
+pub fn to_write(state: State) -> Chosen
+    ensures { λ r. ⌜ chosenIn r ≡ queueToWrite (stateOf state) ⌝ }
+{
+    if moves_now(state.regs.phase, state.regs.block) {
+        let tails = tally(
+            &state.tail,
+            minmax::smaller(state.regs.tail_fill, TAIL_PLACES),
+        );
+        return fullest_of(tails, state.regs.queues, state.regs.block);
+    }
+    Chosen::Nothing
+}
+
+// 4. "Then a read": the queue to read, or none.
+pub fn to_read(state: State) -> Chosen
+    ensures { λ r. ⌜ chosenIn r ≡ queueToRead (stateOf state) ⌝ }
+{
+    if moves_now(state.regs.phase, state.regs.block) {
+        let heads = tally(
+            &state.head,
+            minmax::smaller(state.regs.head_fill, HEAD_PLACES),
+        );
+        let l = buffer_margin::cells_within(state.regs.queues, state.regs.block);
+        return scan(&state.cells, l, heads);
+    }
+    Chosen::Nothing
+}
+
+// The six steps in turn, told by the three choices, are the slot: as a contract, so that it is proved with the code.
+pub fn steps_in_turn()
+    ensures { λ _. ⌜ StepsInTurn ⌝ }
+{}
+
+// Whether a request is Owed; none is not.
+pub fn owes_request(state: State, request: Request) -> bool
+    ensures { λ r. ⌜ ((q : ℕ) → requestIn request ≡ some q → r ≡ isOwed (stateOf state) q) ⌝ }
+{
+    match request {
+        Request::NoRequest => false,
+        Request::Asks(queue) => owes(state, queue),
+    }
+}
+
+// One slot that is not refused, by its steps in turn, each choice made on the state at hand.
+pub fn in_turn(state: State, arrival: Arrival, request: Request, store: &mut [u8]) -> Slotted
+    requires { ⌜ refusal paper (stateOf state) (now store) (callIn arrival request) ≡ 0 ⌝ }
+    ensures { λ r. ⌜ answerOf r (now (store .exit))
+        ≡ slot paper (stateOf state) (now (store .entry)) (callIn arrival request) ⌝ }
+{
+    let first = state.deliver();
+    let delivery = first.delivery;
+    let delivered = first.state;
+    let arrived = delivered.arrive(arrival);
+    let owing = owes_request(arrived, request);
+    let asked = arrived.ask(owing, request);
+    let written = to_write(asked);
+    let wrote = asked.write(written, store);
+    let readQueue = to_read(wrote);
+    let refilled = wrote.read(readQueue, store);
+    let turned = refilled.turn();
+    Slotted {
+        state: turned,
+        number: 0,
+        delivery: delivery,
+        written: written,
+        read: readQueue,
+    }
+}

@@ -1,0 +1,20 @@
+-- `run` meets its contract: a run on the state's arrays, and the record with what they then hold.
+use borrow.Author.Needs.{needs}
+use Rattle.buffer_runs.proofs.Runs.{ran}
+use Rattle.buffer_runs.proofs.run.Statement.{statement}
+use Rattle.buffer_runs.proofs.run.Tie as tie
+
+run-requires : tie.Need-run-requires
+run-requires c κs = search needs
+
+same-length : tie.Need-same-length
+same-length c = search needs
+
+same-length-2 : tie.Need-same-length-2
+same-length-2 c = search needs
+
+returns : tie.Need-returns
+returns c = let called = c .before .before .before .before in ran (called .run .ensures)
+
+pub run-spec : {M : Type 1} → statement M
+run-spec = tie.close (tie.spec run-requires same-length same-length-2 returns)

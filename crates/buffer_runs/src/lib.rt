@@ -1,0 +1,83 @@
+// Many slots in one call, of any state and any store: a list of calls, or idle slots by the count. The state's arrays
+// are copied once, lent to crates/run_checked, which goes from slot to slot in place, and put back.
+ghost use Rattle.buffer_runs.specs.Says.{RunSays, IdleSays};
+use buffer::State;
+use layout::Delivery;
+
+// A list of slots: as many calls as there are places for their answers.
+pub fn run(mut state: State, calls: &[u32], answers: &mut [u64], store: &mut [u8]) -> State
+    ensures { λ r. ⌜ RunSays state (now (calls .entry)) (now (answers .entry)) (now (store .entry)) r
+        (now (answers .exit)) (now (store .exit)) ⌝ }
+{
+    let regs = state.regs;
+    let mut tail = state.tail;
+    let mut head = state.head;
+    let mut cells = state.cells;
+    let mut firsts = state.firsts;
+    let mut stored = state.stored;
+    state.regs = run_checked::run(
+        &mut tail,
+        &mut head,
+        &mut cells,
+        &mut firsts,
+        &mut stored,
+        regs,
+        calls,
+        answers,
+        store,
+    );
+    state.tail = tail;
+    state.head = head;
+    state.cells = cells;
+    state.firsts = firsts;
+    state.stored = stored;
+    state
+}
+
+// How far a stretch of idle slots went: the state, how many slots, and the last one's number and delivery.
+pub struct Idled {
+    pub state: State,
+    pub passed: usize,
+    pub number: u8,
+    pub delivery: Delivery,
+}
+
+// At most n idle slots: it stops with the first that is not quiet, so that no delivery and no refusal is lost. Quiet
+// slots pass at once, whatever their number.
+pub fn idle(state: State, n: usize, store: &mut [u8]) -> Idled
+    ensures { λ r. ⌜ IdleSays state (now (store .entry)) n r (now (store .exit)) ⌝ }
+{
+    let regs = state.regs;
+    let mut tail = state.tail;
+    let mut head = state.head;
+    let mut cells = state.cells;
+    let mut firsts = state.firsts;
+    let mut stored = state.stored;
+    let stretch = run_checked::idle(
+        &mut tail,
+        &mut head,
+        &mut cells,
+        &mut firsts,
+        &mut stored,
+        regs,
+        n,
+        store,
+    );
+    let left = stretch.regs;
+    let passed = stretch.passed;
+    let number = stretch.number;
+    let delivery = stretch.delivery;
+    Idled {
+        state: State {
+            regs: left,
+            tail: tail,
+            head: head,
+            cells: cells,
+            firsts: firsts,
+            stored: stored,
+        },
+        passed: passed,
+        number: number,
+        delivery: delivery,
+    }
+}

@@ -1,0 +1,62 @@
+-- `pass` meets its contract: the quiet slots are the model's, and the one more is the model's slot on what they leave.
+use mathlib.Core.Path.{refl}
+use native.Mathlib.Omega.{arith}
+use borrow.Author.Needs.{needs}
+use Rattle.slot_in_place.proofs.Standing as standing
+use Rattle.idle_in_place.proofs.Passing.{quiet-passed, quiet-ready, quiet-most}
+use Rattle.idle_in_place.proofs.Stretches.{pass-is-quiet, pass-once-more}
+use Rattle.idle_in_place.proofs.pass.Statement.{statement}
+use Rattle.idle_in_place.proofs.pass.Tie as tie
+
+-- The way back through the code.
+abbrev start : tie.After-pass-quiet → tie.Start
+start c = c .before .before .before .before .before
+
+abbrev not-all-quiet : tie.After-advance-arg9 → tie.Else1
+not-all-quiet c = c .before .before .before .before .before .before .before .before .before
+
+pass-quiet-requires : tie.Need-pass-quiet-requires
+pass-quiet-requires c κs =
+    let r = c .before .before .before .before .pre in
+    let v = standing.kept r in (
+      v .sizes-ok,
+      v .phase-ok,
+      r .long .cells-long,
+      r .tallies .tails-are .long,
+      r .tallies .heads-are .long,
+      standing.cells-known r,
+    )
+
+returns : tie.Need-returns
+returns c =
+    let quiet = c .before in
+    let s = start quiet in
+    let says = quiet .pass-quiet .ensures in
+    pass-is-quiet (c .if1 .taken) refl refl (quiet-passed (s .pre) says .slots-pass) (quiet-ready (s .pre) says)
+
+add-passed : tie.Need-add-passed
+add-passed c =
+    let quiet = c .before in
+    let s = start quiet in
+    omega (arith, quiet-most (s .pre) (quiet .pass-quiet .ensures), c .if1 .left, s .fits .n)
+
+advance-requires : tie.Need-advance-requires
+advance-requires c κs =
+    let quiet = not-all-quiet c .before in
+    quiet-ready (start quiet .pre) (quiet .pass-quiet .ensures)
+
+same-length : tie.Need-same-length
+same-length c = search needs
+
+returns-2 : tie.Need-returns-2
+returns-2 c =
+    let advanced = c .before .before .before in
+    let more = not-all-quiet (advanced .before) in
+    let quiet = more .before in
+    let ready = start quiet .pre in
+    let says = quiet .pass-quiet .ensures in
+    pass-once-more refl (omega (arith, quiet-most ready says, more .if1 .left)) refl refl refl
+    (quiet-passed ready says .slots-pass) (advanced .advance .ensures .0)
+
+pub pass-spec : {M : Type 1} → statement M
+pass-spec = tie.close (tie.spec pass-quiet-requires returns add-passed advance-requires same-length returns-2)

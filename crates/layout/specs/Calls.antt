@@ -1,0 +1,32 @@
+-- What the enums of a call and of an answer say in the model's terms.
+use mathlib.Core.Option.{Option, some, none}
+use Prim.Native.Nat.{ℕ}
+use Rattle.model.specs.State.{Byte, byte}
+use Rattle.model.specs.Slot.{Call}
+use Rattle.layout.specs.declared.Chosen.{Chosen}
+use Rattle.layout.specs.declared.Chosen.the-variants.{Queue, Nothing}
+use Rattle.layout.specs.declared.Arrival.{Arrival}
+use Rattle.layout.specs.declared.Arrival.the-variants.{Comes, NoArrival}
+use Rattle.layout.specs.declared.Request.{Request}
+use Rattle.layout.specs.declared.Request.the-variants.{Asks, NoRequest}
+use Rattle.layout.specs.declared.Delivery.{Delivery}
+use Rattle.layout.specs.declared.Delivery.the-variants.{Gives, NoDelivery}
+
+abbrev pub arrivalIn : Arrival → Option Byte
+arrivalIn (Comes q v) = some (byte q v)
+arrivalIn NoArrival = none
+
+abbrev pub requestIn : Request → Option ℕ
+requestIn (Asks q) = some q
+requestIn NoRequest = none
+
+abbrev pub deliveryIn : Delivery → Option Byte
+deliveryIn (Gives q v) = some (byte q v)
+deliveryIn NoDelivery = none
+
+abbrev pub chosenIn : Chosen → Option ℕ
+chosenIn (Queue q) = some q
+chosenIn Nothing = none
+
+abbrev pub callIn : Arrival → Request → Call
+callIn arrival request = record { arrival = arrivalIn arrival; request = requestIn request }

@@ -1,0 +1,51 @@
+-- The state as registers and five arrays hold it. Every register and every array is read as some state, so
+-- that the representation needs no rule of its own: an array is one entry longer than the largest cache, so that a fill
+-- past its end breaks the paper's own rule.
+use mathlib.Core.Path.{_≡_}
+use mathlib.Core.List.{List}
+use Prim.Native.Nat.{ℕ}
+use lib.ListN.{length}
+use Rattle.model.specs.Basics.{tabulate}
+use Rattle.model.specs.Sizes.{Sizes, sizes, lookahead}
+use Rattle.model.specs.State.{Ring, ring, State}
+use Rattle.layout.specs.Entries.{bytesIn, countsIn, cellsIn}
+use Rattle.layout.specs.Lengths.{tailPlaces, headPlaces, cellPlaces, queuePlaces}
+use Rattle.layout.specs.declared.Regs.{Regs}
+
+-- The five arrays: tail and head bytes with their queues, cells, first ring blocks, block counts.
+pub record Arrays : Type 0 where
+  pub tail : List ℕ
+  pub head : List ℕ
+  pub cells : List ℕ
+  pub firsts : List ℕ
+  pub stored : List ℕ
+
+abbrev pub arrays : List ℕ → List ℕ → List ℕ → List ℕ → List ℕ → Arrays
+arrays t h c f n = record { tail = t; head = h; cells = c; firsts = f; stored = n }
+
+-- Their lengths, which their types fix.
+pub record Long (m : Arrays) : Type 0 where
+  pub tail-long : length (m .tail) ≡ tailPlaces
+  pub head-long : length (m .head) ≡ headPlaces
+  pub cells-long : length (m .cells) ≡ cellPlaces
+  pub firsts-long : length (m .firsts) ≡ queuePlaces
+  pub stored-long : length (m .stored) ≡ queuePlaces
+
+abbrev pub sizesIn : Regs → Sizes
+sizesIn regs = sizes (regs .queues) (regs .block) (regs .depth)
+
+-- The rings of the first n queues.
+unfoldable pub ringsIn : ℕ → List ℕ → List ℕ → List Ring
+ringsIn n firsts stored = tabulate n (λ q. ring (countsIn firsts q) (countsIn stored q))
+
+abbrev pub stateIn : Regs → Arrays → State
+stateIn regs m = record {
+  sizes = sizesIn regs;
+  phase = regs .phase;
+  tail = bytesIn (regs .«tail_fill») (m .tail);
+  head = bytesIn (regs .«head_fill») (m .head);
+  cells = cellsIn (lookahead (sizesIn regs)) (m .cells);
+  rings = ringsIn (regs .queues) (m .firsts) (m .stored);
+  tailMark = regs .«tail_mark»;
+  headMark = regs .«head_mark»;
+}

@@ -1,0 +1,68 @@
+// How a state lies in registers and arrays, and what a slot is asked and answers: values, types and lengths that the
+// crates above share.
+
+// The byte that arrives, as queue and value, or none.
+pub enum Arrival {
+    Comes(u8, u8),
+    NoArrival,
+}
+
+// The queue that a byte is requested of, or none.
+pub enum Request {
+    Asks(u8),
+    NoRequest,
+}
+
+// The byte that a slot delivers, as queue and value, or none.
+pub enum Delivery {
+    Gives(u8, u8),
+    NoDelivery,
+}
+
+// A queue that is written or read, or none.
+pub enum Chosen {
+    Queue(u8),
+    Nothing,
+}
+
+// A cell is kind × 65,536 + queue × 256 + value: below `HELD` it is empty, from `OWED` on it is Owed.
+pub const EMPTY: u32 = 0;
+
+pub const HELD: u32 = 65536;
+
+pub const OWED: u32 = 131072;
+
+// How long the arrays of a state are (specs/Lengths.antt). A cache's array has one place more than the largest cache,
+// so that a fill past its end breaks the paper's own rule.
+pub const TAIL_PLACES: usize = 2144;
+
+pub const HEAD_PLACES: usize = 4034;
+
+pub const CELL_PLACES: usize = 2017;
+
+pub const QUEUE_PLACES: usize = 64;
+
+// A byte of a cache is queue × 256 + value.
+pub type TailArray = [u16; TAIL_PLACES];
+
+pub type HeadArray = [u16; HEAD_PLACES];
+
+pub type CellArray = [u32; CELL_PLACES];
+
+// Of each queue one number of its ring, the first block or the blocks stored; and a count of its bytes or cells.
+pub type RingArray = [u8; QUEUE_PLACES];
+
+pub type CountArray = [u16; QUEUE_PLACES];
+
+// Sizes, phase, fills and high marks: all of a state but its arrays. `block` is bytes to a block, `depth` blocks to a
+// queue's ring.
+pub struct Regs {
+    pub queues: usize,
+    pub block: usize,
+    pub depth: usize,
+    pub phase: usize,
+    pub tail_fill: usize,
+    pub head_fill: usize,
+    pub tail_mark: usize,
+    pub head_mark: usize,
+}

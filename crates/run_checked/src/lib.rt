@@ -1,0 +1,123 @@
+// Many slots in one call on lent arrays, whatever the arrays and the store hold: 3 and 2 are judged once, since a slot
+// that is refused leaves all as it was, and the rest is in place.
+ghost use mathlib.Core.Path.{_≡_};
+ghost use mathlib.Core.List.{_++_};
+ghost use Prim.Native.Nat.{_≤_};
+ghost use lib.ListN.{length, drop, replicate};
+ghost use Rattle.layout.specs.Lent.{given, found, left};
+ghost use Rattle.layout.specs.Views.{Long, stateIn};
+ghost use Rattle.run_checked.specs.Says.{RunCheckedSays, IdleCheckedSays};
+use idle_in_place::Passed;
+use layout::CellArray;
+use layout::Chosen;
+use layout::Delivery;
+use layout::HeadArray;
+use layout::Regs;
+use layout::RingArray;
+use layout::TailArray;
+
+// The first n answers are all one word.
+fn fill(answers: &mut [u64], n: usize, word: u64)
+    requires { ⌜ n ≤ length (now answers) ⌝ }
+    ensures { λ _. ⌜ now (answers .exit) ≡ replicate n word ++ drop n (now (answers .entry)) ⌝ }
+{
+    let mut i: usize = 0;
+    while i < n {
+        answers[i] = word;
+        i += 1;
+    }
+}
+
+// Many slots, of any state and any store: as many calls as there are places for their answers.
+pub fn run(
+    tail: &mut TailArray,
+    head: &mut HeadArray,
+    cells: &mut CellArray,
+    firsts: &mut RingArray,
+    stored: &mut RingArray,
+    regs: Regs,
+    calls: &[u32],
+    answers: &mut [u64],
+    store: &mut [u8],
+) -> Regs
+    requires { ⌜ Long (given tail head cells firsts stored) ⌝ }
+    ensures { λ r. ⌜ RunCheckedSays (stateIn regs (found tail head cells firsts stored))
+        (now (calls .entry)) (now (answers .entry)) (now (store .entry))
+        (stateIn r (left tail head cells firsts stored)) (now (answers .exit)) (now (store .exit)) ⌝ }
+{
+    let n = minmax::smaller(calls.len(), answers.len());
+    let judged = slot_rules::judge_rules(tail, head, cells, firsts, stored, regs);
+    let number = slot_checked::state_number(judged.kept, regs, store.len());
+    if number != 0 {
+        let word = run_words::answer_word(
+            number,
+            Delivery::NoDelivery,
+            Chosen::Nothing,
+            Chosen::Nothing,
+        );
+        fill(answers, n, word);
+        return regs;
+    }
+    let mut tails = judged.tails;
+    let mut heads = judged.heads;
+    let mut owing = judged.owing;
+    run_in_place::run_calls(
+        tail,
+        head,
+        cells,
+        firsts,
+        stored,
+        &mut tails,
+        &mut heads,
+        &mut owing,
+        regs,
+        &calls[..n],
+        answers,
+        store,
+    )
+}
+
+// One stretch of at most n idle slots, of any state and any store. Where the state breaks the rules or the store is too
+// short, it is one slot, and that is refused.
+pub fn idle(
+    tail: &mut TailArray,
+    head: &mut HeadArray,
+    cells: &mut CellArray,
+    firsts: &mut RingArray,
+    stored: &mut RingArray,
+    regs: Regs,
+    n: usize,
+    store: &mut [u8],
+) -> Passed
+    requires { ⌜ Long (given tail head cells firsts stored) ⌝ }
+    ensures { λ r. ⌜ IdleCheckedSays (stateIn regs (found tail head cells firsts stored)) (now (store .entry)) n r
+        (stateIn (r .regs) (left tail head cells firsts stored)) (now (store .exit)) ⌝ }
+{
+    let judged = slot_rules::judge_rules(tail, head, cells, firsts, stored, regs);
+    let number = slot_checked::state_number(judged.kept, regs, store.len());
+    if number != 0 {
+        let passed = minmax::smaller(n, 1);
+        return Passed {
+            regs: regs,
+            passed: passed,
+            number: number,
+            delivery: Delivery::NoDelivery,
+        };
+    }
+    let mut tails = judged.tails;
+    let mut heads = judged.heads;
+    let mut owing = judged.owing;
+    idle_in_place::pass(
+        tail,
+        head,
+        cells,
+        firsts,
+        stored,
+        &mut tails,
+        &mut heads,
+        &mut owing,
+        regs,
+        n,
+        store,
+    )
+}

@@ -1,0 +1,121 @@
+// Many slots in one call, in place: no copy of the state per slot, the calls in a lent slice, an answer for each in
+// another.
+ghost use mathlib.Core.List.{map};
+ghost use Prim.Native.Nat.{_≤_};
+ghost use lib.ListN.{length};
+ghost use Rattle.layout.specs.Lent.{given, found, left, countsGiven, countsLeft};
+ghost use Rattle.layout.specs.Views.{stateIn};
+ghost use Rattle.slot_in_place.specs.Says.{Ready};
+ghost use Rattle.run_words.specs.Words.{callOf};
+ghost use Rattle.run_in_place.specs.Says.{CalledSays, RunInPlaceSays};
+use layout::CellArray;
+use layout::CountArray;
+use layout::HeadArray;
+use layout::Regs;
+use layout::RingArray;
+use layout::TailArray;
+
+// Where a slot leaves the registers, and its answer as one number.
+pub struct Called {
+    pub regs: Regs,
+    pub word: u64,
+}
+
+// One slot whose call and answer are numbers.
+pub fn answer_call(
+    tail: &mut TailArray,
+    head: &mut HeadArray,
+    cells: &mut CellArray,
+    firsts: &mut RingArray,
+    stored: &mut RingArray,
+    tails: &mut CountArray,
+    heads: &mut CountArray,
+    owing: &mut CountArray,
+    regs: Regs,
+    call: u32,
+    store: &mut [u8],
+) -> Called
+    requires { ⌜ Ready regs (given tail head cells firsts stored)
+        (countsGiven tails heads owing) (now store) ⌝ }
+    ensures { λ r. ⌜ CalledSays
+        (stateIn regs (found tail head cells firsts stored))
+        (now (store .entry)) (callOf call) r
+        (left tail head cells firsts stored)
+        (countsLeft tails heads owing) (now (store .exit)) ⌝ }
+{
+    let arrival = run_words::arrival_in(call);
+    let request = run_words::request_in(call);
+    let a = slot_in_place::advance(
+        tail,
+        head,
+        cells,
+        firsts,
+        stored,
+        tails,
+        heads,
+        owing,
+        regs,
+        arrival,
+        request,
+        store,
+    );
+    let next = a.regs;
+    let number = a.number;
+    let delivery = a.delivery;
+    let written = a.written;
+    let read = a.read;
+    let word = run_words::answer_word(number, delivery, written, read);
+    Called {
+        regs: next,
+        word: word,
+    }
+}
+
+// The slots of all calls, in order.
+pub fn run_calls(
+    tail: &mut TailArray,
+    head: &mut HeadArray,
+    cells: &mut CellArray,
+    firsts: &mut RingArray,
+    stored: &mut RingArray,
+    tails: &mut CountArray,
+    heads: &mut CountArray,
+    owing: &mut CountArray,
+    regs: Regs,
+    calls: &[u32],
+    answers: &mut [u64],
+    store: &mut [u8],
+) -> Regs
+    requires { ⌜ Ready regs (given tail head cells firsts stored)
+        (countsGiven tails heads owing) (now store)
+        × (length (now calls) ≤ length (now answers)) ⌝ }
+    ensures { λ r. ⌜ RunInPlaceSays
+        (stateIn regs (found tail head cells firsts stored))
+        (now (store .entry)) (map callOf (now (calls .entry))) (now (answers .entry)) (now (answers .exit))
+        (stateIn r (left tail head cells firsts stored))
+        (now (store .exit))
+        × Ready r (left tail head cells firsts stored)
+        (countsLeft tails heads owing) (now (store .exit)) ⌝ }
+{
+    let mut next = regs;
+    let mut i: usize = 0;
+    while i < calls.len() {
+        let called = answer_call(
+            tail,
+            head,
+            cells,
+            firsts,
+            stored,
+            tails,
+            heads,
+            owing,
+            next,
+            calls[i],
+            store,
+        );
+        next = called.regs;
+        answers[i] = called.word;
+        i += 1;
+    }
+    next
+}

@@ -1,0 +1,213 @@
+-- A script prints at most 10 bytes for each of its own, and 11 more (`text-fits`). A slot's line has at most 20 bytes:
+-- for each slot that is not idle there is at most one such line, and its command has two bytes or more. The last line
+-- has at most 13 bytes, for which the end's own byte is there too. A fault's line has at most 11.
+use mathlib.Core.Path.{_≡_, refl, ap}
+use mathlib.Core.Bool.{Bool, true, false, not}
+use mathlib.Core.List.{List, [], _∷_, _++_}
+use mathlib.Core.Option.{Option, some, none}
+use Prim.Native.Nat.{ℕ, zero, suc, _+_, _*_, _≤_, _<_}
+use native.Mathlib.Omega.{arith}
+use lib.Dec.{eqb, ltb}
+use lib.ListN.{length, replicate, length-append}
+use borrow.Author.Tests.{eqb-true, ltb-true, ltb-false, not-false}
+use Rattle.model.specs.Basics.{choose, All, when, firstRefusal}
+use Rattle.model.specs.Sizes.{Sizes, accepts, paper, paperLimits, storeBytes}
+use Rattle.model.specs.State.{Byte, fresh}
+use Rattle.model.specs.Lists.{Step, accepted, deliveries}
+use Rattle.model.specs.Demand.{NoMiss, ListMeets}
+use Rattle.model.proofs.basics.Tests.{by-test}
+use Rattle.model.proofs.basics.AllOf.{all-of-facts}
+use Rattle.model.proofs.basics.FirstRefusal.{no-refusal-at, when-zero}
+use Rattle.model.proofs.basics.Limits.{within-limits}
+use Rattle.model.proofs.one_slot.Lists.{run-length, accepted-few}
+use Rattle.model.proofs.Demand.{every-list}
+use Rattle.script_commands.specs.Commands as of
+use Rattle.script_commands.specs.Scripts.{Script, judge}
+use Rattle.script_lines.specs.Lines.{delivery, refusal, ending, fault, lineText, text}
+use Rattle.script_text.specs.Run.{mostBytes, slotsOfAll, sizesOf, deliveryLines, answerLines, countOn, slotLines}
+use Rattle.script_text.specs.Run.{listLines, startNumber, scriptSteps, startedLines, judgedLines, scriptLines}
+use Rattle.script_text.specs.Run.{outputBound}
+use Rattle.script_text.proofs.Examples.{listing, prints}
+use Rattle.script_text.proofs.Append.{text-append, refused-test}
+use Rattle.script_text.proofs.Lengths.{mostSlots, delivery-length, refusal-length, ending-length, fault-length}
+use Rattle.script_text.proofs.Lengths.{one-line-length, start-lines-length}
+use Rattle.script_text.proofs.Delivered.{IfAny, one, present, TakesSmall, SmallByte}
+use Rattle.script_text.proofs.Delivered.{deliveries-small, deliveries-few}
+use Rattle.script_text.proofs.SlotCharges.{busyOf, refusedOf, NoneOfIdle, ArrivalBelow, run-says, run-pays}
+use Rattle.script_text.proofs.ScriptCharges.{Bytes, ScriptPays, judged-pays}
+
+-- Properties of all slots of a list.
+all-map : {A : Type 0} (P R : A → Type 0) → ((x : A) → P x → R x) → (xs : List A) → All P xs → All R xs
+all-map P R f [] h = tt
+all-map P R f (x ∷ xs) h = (f x (h .0), all-map P R f xs (h .1))
+
+all-accepted : (P : Step → Type 0) (steps : List Step) → All P steps → All P (accepted steps)
+all-accepted P [] h = tt
+all-accepted P (step ∷ steps) h = by-test (eqb (step .number) 0)
+    (λ t. rw t (h .0, all-accepted P steps (h .1)))
+    (λ t. rw t (all-accepted P steps (h .1)))
+
+-- The lines of slots: 20 bytes for each that is refused and for each that delivers.
+abbrev lineCount : List Step → ℕ
+lineCount steps = refusedOf steps + present (deliveries (accepted steps))
+
+module _ (queues values : ℕ) (two : queues ≤ 100) (three : values ≤ 1000) where
+  abbrev Regs : Option Byte → Type 0
+  Regs o = IfAny (SmallByte queues values) o
+
+  delivery-short : (t : ℕ) (o : Option Byte) → t < mostSlots → Regs o
+      → length (text (deliveryLines t o)) ≤ 20 * one o
+  delivery-short t none l h = omega arith
+  delivery-short t (some y) l h =
+      omega (
+        arith,
+        one-line-length (delivery t (y .queue) (y .value)),
+        delivery-length t (y .queue) (y .value) l (omega (arith, two, h .queue-small))
+            (omega (arith, three, h .value-small)),
+      )
+
+  slot-lines-short : (t : ℕ) (steps : List Step) → t + length steps ≤ mostSlots
+      → All (λ (step : Step). step .number ≤ 10) steps → All Regs (deliveries (accepted steps))
+      → length (text (slotLines t steps)) ≤ 20 * lineCount steps
+  slot-lines-short t [] l low regs = omega arith
+  slot-lines-short t (step ∷ steps) l low regs =
+      by-number (step .number) (low .0) regs (λ u m h. slot-lines-short u steps m (low .1) h)
+    where
+      taken-with : ℕ → List Step
+      taken-with n = choose (eqb n 0) (step ∷ accepted steps) (accepted steps)
+
+      by-number : (n : ℕ) → n ≤ 10 → All Regs (deliveries (taken-with n))
+          → ((u : ℕ) → u + length steps ≤ mostSlots → All Regs (deliveries (accepted steps))
+          → length (text (slotLines u steps)) ≤ 20 * lineCount steps)
+          → length (text (answerLines t n (step .delivered) ++ slotLines (countOn t n) steps))
+          ≤ 20 * ((choose (eqb n 0) 0 1 + refusedOf steps) + present (deliveries (taken-with n)))
+      by-number zero low regs later =
+          omega (
+            arith,
+            ap length (text-append (deliveryLines t (step .delivered)) (slotLines (suc t) steps)),
+            length-append (text (deliveryLines t (step .delivered))) (text (slotLines (suc t) steps)),
+            delivery-short t (step .delivered) (omega (arith, l)) (regs .0),
+            later (suc t) (omega (arith, l)) (regs .1),
+          )
+      by-number (suc n) low regs later =
+          let others : All Regs (deliveries (accepted steps)) = rw (refused-test n) at regs in
+          rw (refused-test n) (omega (
+            arith,
+            length-append (lineText (refusal t (suc n))) (text (slotLines t steps)),
+            refusal-length t (suc n) (omega (arith, l)) (omega (arith, low)),
+            later t (omega (arith, l)) others,
+          ))
+
+-- The number with which a script starts is 2 at most; where it is 0, sizes and store are good.
+two-tests-low : (t u : Bool) → firstRefusal (when t 1 ∷ when u 2 ∷ []) ≤ 2
+two-tests-low true u = omega arith
+two-tests-low false true = omega arith
+two-tests-low false false = omega arith
+
+pub start-low : (s : Sizes) (store : List ℕ) → startNumber s store ≤ 2
+start-low s store = two-tests-low (not (accepts paperLimits s)) (ltb (length store) (storeBytes s))
+
+module _ (s : Sizes) (store : List ℕ) (e : startNumber s store ≡ 0) where
+  abbrev tests : List ℕ
+  tests = when (not (accepts paperLimits s)) 1 ∷ when (ltb (length store) (storeBytes s)) 2 ∷ []
+
+  pub sizes-accepted : accepts paperLimits s ≡ true
+  sizes-accepted =
+      not-false (accepts paperLimits s) (when-zero (not (accepts paperLimits s)) 0 (no-refusal-at tests 0 e))
+
+  store-long : storeBytes s ≤ length store
+  store-long =
+      ltb-false (length store) (storeBytes s)
+      (when-zero (ltb (length store) (storeBytes s)) 1 (no-refusal-at tests 1 e))
+
+-- Demand 3 rules out every refusal that an idle slot could have.
+none-of-idle : (steps : List Step) → All NoMiss steps → All (λ (step : Step). step .number ≡ 3 → ⊥) steps
+    → All (λ (step : Step). step .number ≡ 2 → ⊥) steps → All (λ (step : Step). NoneOfIdle (step .number)) steps
+none-of-idle [] miss three two = tt
+none-of-idle (step ∷ steps) miss three two = (
+  record { not-2 = two .0; not-3 = three .0; not-8 = miss .0 .not-8; not-10 = miss .0 .not-10 },
+  none-of-idle steps (miss .1) (three .1) (two .1),
+)
+
+-- A script that reads well and starts.
+module _ (cs : List of.Command) (store : List ℕ) (e : startNumber (sizesOf cs) store ≡ 0)
+    (values-small : All (ArrivalBelow 256) (slotsOfAll cs)) (few : length (slotsOfAll cs) < mostSlots) where
+  abbrev steps : List Step
+  steps = scriptSteps cs store
+
+  meets : ListMeets (sizesOf cs) store steps
+  meets = every-list paperLimits (sizesOf cs) store (slotsOfAll cs) (sizes-accepted (sizesOf cs) store e)
+
+  says : All (λ (step : Step). (step .number ≤ 10) × TakesSmall (sizesOf cs .Q) 256 step) steps
+  says = run-says paper 256 (sizesOf cs) (fresh paper (sizesOf cs)) store (slotsOfAll cs) refl values-small
+
+  lines-paid : lineCount steps ≤ busyOf (slotsOfAll cs)
+  lines-paid =
+      omega (
+        arith,
+        deliveries-few (sizesOf cs) (accepted steps) (meets .bytes),
+        run-pays paper (fresh paper (sizesOf cs)) store (slotsOfAll cs)
+            (none-of-idle steps (meets .no-miss) (meets .no-3) (meets .no-2 (store-long (sizesOf cs) store e))),
+      )
+
+  list-short : length (text (listLines steps)) ≤ 20 * busyOf (slotsOfAll cs) + 13
+  list-short =
+      omega (
+        arith,
+        lines-paid,
+        ap length (text-append (slotLines 0 steps) (ending (length (accepted steps)) ∷ [])),
+        length-append (text (slotLines 0 steps)) (text (ending (length (accepted steps)) ∷ [])),
+        slot-lines-short (sizesOf cs .Q) 256 two-digits (omega arith) 0 steps (omega (arith, few, as-many))
+            (all-map _ _ (λ step h. h .0) steps says)
+            (deliveries-small (sizesOf cs .Q) 256 (sizesOf cs) (accepted steps) (meets .bytes)
+            (all-accepted _ steps (all-map _ _ (λ step h. h .1) steps says))),
+        one-line-length (ending (length (accepted steps))),
+        ending-length (length (accepted steps)) (omega (arith, few, as-many, accepted-few steps)),
+      )
+    where
+      two-digits : sizesOf cs .Q ≤ 100
+      two-digits = omega (arith, within-limits paperLimits (sizesOf cs) (sizes-accepted (sizesOf cs) store e) .q-high)
+
+      as-many : length steps ≡ length (slotsOfAll cs)
+      as-many = run-length paper (fresh paper (sizesOf cs)) store (slotsOfAll cs)
+
+started-fits : (start n : ℕ) (cs : List of.Command) (store : List ℕ) → startNumber (sizesOf cs) store ≡ start
+    → All (ArrivalBelow 256) (slotsOfAll cs) → length (slotsOfAll cs) < mostSlots
+    → 2 * busyOf (slotsOfAll cs) + 1 ≤ n
+    → length (text (startedLines start cs store)) ≤ 10 * n + 11
+started-fits zero n cs store e values-small few paid = omega (arith, paid, list-short cs store e values-small few)
+started-fits (suc k) n cs store e values-small few paid =
+    omega (arith, start-lines-length (suc k) (omega (arith, e, start-low (sizesOf cs) store)))
+
+judged-fits : (s : Script) (n : ℕ) (store : List ℕ) → ScriptPays 1 0 n s → n ≤ mostBytes
+    → length (text (judgedLines s store)) ≤ 10 * n + 11
+judged-fits s n store pays l = by-test (eqb (s .number) 0)
+    (λ t. rw t (started-fits (startNumber (sizesOf (s .commands)) store) n (s .commands) store refl (pays .values-small)
+    (omega (arith, pays .slots-few, l)) (pays .busy-paid (eqb-true (s .number) 0 t))))
+    (λ t. rw t (omega (
+      arith,
+      one-line-length (fault (s .number) (s .offset)),
+      fault-length (s .number) (s .offset) (pays .number-small) (omega (arith, l, pays .offset-within)),
+    )))
+
+pub text-fits : (bytes store : List ℕ) → Bytes bytes
+    → length (text (scriptLines bytes store)) ≤ outputBound (length bytes)
+unfolding scriptLines
+text-fits bytes store h = by-test (ltb mostBytes (length bytes))
+    (λ t. rw t (omega (
+      arith,
+      ltb-true mostBytes (length bytes) t,
+      one-line-length (fault 15 mostBytes),
+      fault-length 15 mostBytes (omega arith) (omega arith),
+    )))
+    (λ t. rw t (omega (
+      arith,
+      ltb-false mostBytes (length bytes) t,
+      judged-fits (judge bytes) (length bytes) store (judged-pays bytes h) (ltb-false mostBytes (length bytes) t),
+    )))
+
+-- The bound at work: what the listing prints is within it.
+listing-fits : length (prints listing) ≤ outputBound (length (listing .script))
+listing-fits =
+    text-fits (listing .script) (replicate (listing .storeLength) 0)
+    (all-of-facts (λ (x : ℕ). ltb x 256) (λ (x : ℕ). x < 256) (λ x e. ltb-true x 256 e) (listing .script) refl)

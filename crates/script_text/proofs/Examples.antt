@@ -1,0 +1,135 @@
+-- Document 01's listing, and scripts of which each shows a sentence of "Scripts": the definitions compute to these very
+-- bytes; and the store that the listing leaves.
+use mathlib.Core.Path.{_≡_, refl}
+use mathlib.Core.List.{List, [], _∷_, map}
+use Prim.Native.Nat.{ℕ}
+use Prim.Native.Char.{code}
+use Prim.Native.String.{String, [] as no-text, _∷_ as _then_}
+use lib.ListN.{replicate}
+use Rattle.script_commands.specs.Scripts.{judge, judgeFrom}
+use Rattle.script_lines.specs.Lines.{text, decimal, lineText}
+use Rattle.script_text.specs.Run.{scriptLines, scriptStore, storeLent, programText}
+
+-- A row: a script, how many bytes of store it has, and the text that it is to print.
+pub record Example : Type 0 where
+  pub script : List ℕ
+  pub storeLength : ℕ
+  pub printed : String
+
+abbrev example : List ℕ → ℕ → String → Example
+example script storeLength printed = record { script = script; storeLength = storeLength; printed = printed }
+
+-- What a row prints, and its text as bytes.
+abbrev pub prints : Example → List ℕ
+prints row = text (scriptLines (row .script) (replicate (row .storeLength) 0))
+
+abbrev ascii : String → List ℕ
+ascii no-text = []
+ascii (c then s) = code c ∷ ascii s
+
+abbrev printedBytes : Example → List ℕ
+printedBytes row = ascii (row .printed)
+
+-- Each row prints its text.
+abbrev AsPrinted : List Example → Type 0
+AsPrinted rows = map prints rows ≡ map printedBytes rows
+
+-- "Input (hex) .. prints": Q 1, b 2, K 2, so that 4 bytes of store are enough.
+abbrev pub listing : Example
+listing =
+    example
+    (0x10 ∷ 0x01 ∷ 0x02 ∷ 0x02 ∷
+    0x03 ∷ 0x00 ∷ 0x41 ∷ 0x00 ∷
+    0x01 ∷ 0x00 ∷ 0x42 ∷
+    0x02 ∷ 0x00 ∷
+    0x02 ∷ 0x00 ∷
+    0x01 ∷ 0x00 ∷ 0x43 ∷
+    0x01 ∷ 0x00 ∷ 0x44 ∷
+    0x00 ∷
+    0x02 ∷ 0x00 ∷
+    0x04 ∷ 0x02 ∷ 0x00 ∷
+    0x05 ∷ [])
+    4
+    "D 2 0 65\nR 3 7\nD 4 0 66\nD 8 0 67\nE 9\n"
+
+listing-prints : AsPrinted (listing ∷ [])
+unfolding scriptLines judge judgeFrom decimal lineText
+listing-prints = refl
+
+-- It leaves the block of 43 and 44 that was written, and all other bytes as they were.
+listing-leaves : scriptStore (listing .script) (replicate 5 0xff) ≡ (0x43 ∷ 0x44 ∷ 0xff ∷ 0xff ∷ 0xff ∷ [])
+unfolding scriptStore judge judgeFrom
+listing-leaves = refl
+
+-- "A script refusal prints only S n offset": an unknown command, operands cut short, a first command other than sizes,
+-- sizes again, bytes that run out where a command is due, bytes that follow the end. "At a command byte 12 comes before
+-- 14, 14 before 13."
+abbrev scriptRefusals : List Example
+scriptRefusals =
+    example (0x10 ∷ 0x01 ∷ 0x01 ∷ 0x01 ∷ 0x06 ∷ []) 1 "S 12 4\n" ∷
+    example (0x10 ∷ 0x01 ∷ 0x01 ∷ 0x01 ∷ 0x00 ∷ 0x03 ∷ 0x00 ∷ 0x41 ∷ []) 1 "S 13 5\n" ∷
+    example (0x00 ∷ 0x05 ∷ []) 1 "S 14 0\n" ∷
+    example (0x10 ∷ 0x01 ∷ 0x01 ∷ 0x01 ∷ 0x10 ∷ 0x01 ∷ 0x01 ∷ 0x01 ∷ 0x05 ∷ []) 1 "S 14 4\n" ∷
+    example [] 1 "S 15 0\n" ∷
+    example (0x10 ∷ 0x01 ∷ 0x01 ∷ 0x01 ∷ 0x00 ∷ []) 1 "S 15 5\n" ∷
+    example (0x10 ∷ 0x01 ∷ 0x01 ∷ 0x01 ∷ 0x05 ∷ 0x06 ∷ []) 1 "S 15 5\n" ∷
+    example (0x06 ∷ []) 1 "S 12 0\n" ∷
+    example (0x01 ∷ []) 1 "S 14 0\n" ∷ []
+
+script-refusals-print : AsPrinted scriptRefusals
+unfolding scriptLines judge judgeFrom decimal lineText
+script-refusals-print = refl
+
+-- "Input over 65,536 bytes prints only S 15 65536", whatever fault it has before; 65,536 bytes are judged as any
+-- script.
+abbrev longInputs : List Example
+longInputs =
+    example (replicate 65_537 0x06) 1 "S 15 65536\n" ∷
+    example (replicate 65_536 0x06) 1 "S 12 0\n" ∷ []
+
+long-inputs-print : AsPrinted longInputs
+unfolding scriptLines judge judgeFrom decimal lineText
+long-inputs-print = refl
+
+-- "Refusal 1, or a store that is too short, prints R 0 n and E 0", also where the script has no slot. 1 comes before 2,
+-- and a script refusal before both.
+abbrev startRefusals : List Example
+startRefusals =
+    example (0x10 ∷ 0x00 ∷ 0x02 ∷ 0x02 ∷ 0x02 ∷ 0x00 ∷ 0x05 ∷ []) 4 "R 0 1\nE 0\n" ∷
+    example (0x10 ∷ 0x01 ∷ 0x02 ∷ 0x02 ∷ 0x02 ∷ 0x00 ∷ 0x05 ∷ []) 3 "R 0 2\nE 0\n" ∷
+    example (0x10 ∷ 0x01 ∷ 0x02 ∷ 0x02 ∷ 0x05 ∷ []) 3 "R 0 2\nE 0\n" ∷
+    example (0x10 ∷ 0x41 ∷ 0x01 ∷ 0x01 ∷ 0x05 ∷ []) 3 "R 0 1\nE 0\n" ∷
+    example (0x10 ∷ 0x00 ∷ 0x02 ∷ 0x02 ∷ 0x06 ∷ []) 3 "S 12 4\n" ∷ []
+
+start-refusals-print : AsPrinted startRefusals
+unfolding scriptLines judge judgeFrom decimal lineText
+start-refusals-print = refl
+
+-- "R t n (slot about to run, refusal) .. E t (slots accepted)": a refused slot has no number, so that t may come again.
+-- "A 16-bit count, low byte first, of idle slots (0 is none)": 259 and none.
+abbrev counts : List Example
+counts =
+    example
+    (0x10 ∷ 0x01 ∷ 0x01 ∷ 0x01 ∷ 0x00 ∷ 0x02 ∷ 0x00 ∷ 0x02 ∷ 0x01 ∷ 0x00 ∷ 0x05 ∷ [])
+    1
+    "R 1 7\nR 1 6\nE 2\n" ∷
+    example
+    (0x10 ∷ 0x01 ∷ 0x01 ∷ 0x01 ∷ 0x04 ∷ 0x03 ∷ 0x01 ∷ 0x04 ∷ 0x00 ∷ 0x00 ∷ 0x05 ∷ [])
+    1
+    "E 259\n" ∷ []
+
+counts-print : AsPrinted counts
+unfolding scriptLines judge judgeFrom decimal lineText
+counts-print = refl
+
+-- "lends a store of 65,536": what the program prints for the listing, for sizes that need 65,536 bytes of store, and
+-- for sizes that need 65,540.
+abbrev programInputs : List Example
+programInputs =
+    listing ∷
+    example (0x10 ∷ 64 ∷ 8 ∷ 128 ∷ 0x05 ∷ []) storeLent "E 0\n" ∷
+    example (0x10 ∷ 20 ∷ 29 ∷ 113 ∷ 0x05 ∷ []) storeLent "R 0 2\nE 0\n" ∷ []
+
+program-prints : map (λ (row : Example). programText (row .script)) programInputs ≡ map printedBytes programInputs
+unfolding programText scriptLines judge judgeFrom decimal lineText
+program-prints = refl

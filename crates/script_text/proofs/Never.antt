@@ -1,0 +1,93 @@
+-- No script prints R t 3, R t 8, R t 9 or R t 10, whatever its bytes are and its store holds (`never-printed`). Its
+-- slots are a list of demand 3, where none of these comes, and a script that does not start prints R 0 1 or R 0 2.
+use mathlib.Core.Path.{_≡_, refl, ap}
+use mathlib.Core.List.{List, [], _∷_}
+use mathlib.Core.Option.{Option, some, none}
+use Prim.Native.Nat.{ℕ, zero, suc, _≤_}
+use native.Mathlib.Omega.{arith}
+use lib.Dec.{eqb, ltb}
+use lib.ListN.{length}
+use Rattle.model.specs.Basics.{All}
+use Rattle.model.specs.Sizes.{paperLimits}
+use Rattle.model.specs.State.{Byte}
+use Rattle.model.specs.Lists.{Step, accepted}
+use Rattle.model.specs.Demand.{NoMiss, ListMeets}
+use Rattle.model.proofs.basics.Tests.{by-test}
+use Rattle.model.proofs.basics.AllOf.{all-append}
+use Rattle.model.proofs.Demand.{every-list}
+use Rattle.script_commands.specs.Commands as of
+use Rattle.script_commands.specs.Scripts.{Script, judge}
+use Rattle.script_lines.specs.Lines.{Line, delivery, refusal, ending, fault}
+use Rattle.script_text.specs.Run.{mostBytes, slotsOfAll, sizesOf, answerLines, countOn, slotLines}
+use Rattle.script_text.specs.Run.{startNumber, scriptSteps, startedLines, judgedLines, scriptLines}
+use Rattle.script_text.proofs.Bound.{start-low, sizes-accepted}
+
+-- A line that is none of these refusals, in whatever slot.
+pub record NoneOfThese (line : Line) : Type 0 where
+  pub not-3 : (t : ℕ) → line ≡ refusal t 3 → ⊥
+  pub not-8 : (t : ℕ) → line ≡ refusal t 8 → ⊥
+  pub not-9 : (t : ℕ) → line ≡ refusal t 9 → ⊥
+  pub not-10 : (t : ℕ) → line ≡ refusal t 10 → ⊥
+
+-- Lines of another kind, and refusals with another number.
+abbrev refusedWith : Line → ℕ
+refusedWith (delivery t q v) = 0
+refusedWith (refusal t n) = n
+refusedWith (ending t) = 0
+refusedWith (fault n offset) = 0
+
+by-refused-with : (line : Line) → (refusedWith line ≡ 3 → ⊥) → (refusedWith line ≡ 8 → ⊥) → (refusedWith line ≡ 9 → ⊥)
+    → (refusedWith line ≡ 10 → ⊥) → NoneOfThese line
+by-refused-with line three eight nine ten = record {
+  not-3 = λ t e. three (ap refusedWith e);
+  not-8 = λ t e. eight (ap refusedWith e);
+  not-9 = λ t e. nine (ap refusedWith e);
+  not-10 = λ t e. ten (ap refusedWith e);
+}
+
+low-number : (line : Line) → refusedWith line ≤ 2 → NoneOfThese line
+low-number line low =
+    by-refused-with line
+    (λ e. omega (arith, low, e)) (λ e. omega (arith, low, e)) (λ e. omega (arith, low, e)) (λ e. omega (arith, low, e))
+
+-- The lines of slots of which none was refused so.
+answer-lines : (t n : ℕ) (o : Option Byte) → (n ≡ 3 → ⊥) → (n ≡ 8 → ⊥) → (n ≡ 9 → ⊥) → (n ≡ 10 → ⊥)
+    → All NoneOfThese (answerLines t n o)
+answer-lines t zero none three eight nine ten = tt
+answer-lines t zero (some y) three eight nine ten =
+    (low-number (delivery t (y .queue) (y .value)) (omega arith), tt)
+answer-lines t (suc n) o three eight nine ten = (by-refused-with (refusal t (suc n)) three eight nine ten, tt)
+
+slot-lines : (t : ℕ) (steps : List Step) → All NoMiss steps → All (λ (step : Step). step .number ≡ 3 → ⊥) steps
+    → All NoneOfThese (slotLines t steps)
+slot-lines t [] miss three = tt
+slot-lines t (step ∷ steps) miss three =
+    all-append NoneOfThese (answerLines t (step .number) (step .delivered)) (slotLines (countOn t (step .number)) steps)
+    (answer-lines t (step .number) (step .delivered) (three .0) (miss .0 .not-8) (miss .0 .not-9) (miss .0 .not-10))
+    (slot-lines (countOn t (step .number)) steps (miss .1) (three .1))
+
+-- A script that starts, or not.
+started-lines : (start : ℕ) (cs : List of.Command) (store : List ℕ) → startNumber (sizesOf cs) store ≡ start
+    → All NoneOfThese (startedLines start cs store)
+started-lines zero cs store e =
+    let meets : ListMeets (sizesOf cs) store (scriptSteps cs store) =
+    every-list paperLimits (sizesOf cs) store (slotsOfAll cs) (sizes-accepted (sizesOf cs) store e) in
+    let last : Line = ending (length (accepted (scriptSteps cs store))) in
+    all-append NoneOfThese (slotLines 0 (scriptSteps cs store)) (last ∷ [])
+    (slot-lines 0 (scriptSteps cs store) (meets .no-miss) (meets .no-3))
+    (low-number last (omega arith), tt)
+started-lines (suc n) cs store e = (
+  low-number (refusal 0 (suc n)) (omega (arith, e, start-low (sizesOf cs) store)),
+  (low-number (ending 0) (omega arith), tt),
+)
+
+judged-lines : (s : Script) (store : List ℕ) → All NoneOfThese (judgedLines s store)
+judged-lines s store = by-test (eqb (s .number) 0)
+    (λ t. rw t (started-lines (startNumber (sizesOf (s .commands)) store) (s .commands) store refl))
+    (λ t. rw t (low-number (fault (s .number) (s .offset)) (omega arith), tt))
+
+pub never-printed : (bytes store : List ℕ) → All NoneOfThese (scriptLines bytes store)
+unfolding scriptLines
+never-printed bytes store = by-test (ltb mostBytes (length bytes))
+    (λ t. rw t (low-number (fault 15 mostBytes) (omega arith), tt))
+    (λ t. rw t (judged-lines (judge bytes) store))

@@ -1,0 +1,165 @@
+// One slot on lent arrays, in place: decided before anything moves, then counted, then carried out.
+ghost use Rattle.layout.specs.Calls.{chosenIn, callIn};
+ghost use Rattle.layout.specs.Views.{Long, stateIn};
+ghost use Rattle.layout.specs.Lent.{given, found, left, countsGiven, countsLeft};
+ghost use Rattle.slot_in_place.specs.Says.{Decided, CarrySays, Ready, AdvanceSays, AsGiven};
+use layout::Arrival;
+use layout::CellArray;
+use layout::Chosen;
+use layout::CountArray;
+use layout::Delivery;
+use layout::HeadArray;
+use layout::Regs;
+use layout::Request;
+use layout::RingArray;
+use layout::TailArray;
+
+// Where a slot that is carried out leaves the registers, and what it delivers.
+pub struct Carried {
+    pub regs: Regs,
+    pub delivery: Delivery,
+}
+
+// The five steps of a slot of which all is decided.
+pub fn carry(
+    tail: &mut TailArray,
+    head: &mut HeadArray,
+    cells: &mut CellArray,
+    firsts: &mut RingArray,
+    stored: &mut RingArray,
+    regs: Regs,
+    arrival: Arrival,
+    request: Request,
+    owes: bool,
+    written: Chosen,
+    read: Chosen,
+    store: &mut [u8],
+) -> Carried
+    requires { ⌜ Long (given tail head cells firsts stored)
+        × Decided (stateIn regs (given tail head cells firsts stored)) (now store)
+        (callIn arrival request) owes (chosenIn written) (chosenIn read) ⌝ }
+    ensures { λ r. ⌜ CarrySays
+        (stateIn regs (found tail head cells firsts stored))
+        (now (store .entry)) (callIn arrival request) r
+        (left tail head cells firsts stored)
+        (now (store .exit)) ⌝ }
+{
+    // 1. The oldest cell leaves: its byte is fixed before anything else.
+    let cell = cells[0];
+    let gave = slot_steps::deliver(head, regs.head_fill, cell);
+    // 2. The arriving byte joins the tail.
+    let joined = slot_steps::arrive(tail, regs.tail_fill, arrival);
+    // 3. The request takes the youngest cell.
+    let asked = slot_steps::ask(tail, joined, owes, request);
+    lookahead::shift(cells, regs.queues * (regs.block - 1) + 1, asked.cell);
+    // 4. The two moves, where a queue is chosen.
+    let tail_fill = slot_steps::write(tail, firsts, stored, regs, asked.fill, written, store);
+    let head_fill = slot_steps::read(head, firsts, stored, regs, gave.fill, read, store);
+    // 5. The phase. The marks rise with the fills.
+    let phase = slot_steps::next_phase(regs.phase, regs.block);
+    let tail_mark = minmax::larger(regs.tail_mark, joined);
+    let head_mark = minmax::larger(regs.head_mark, head_fill);
+    let delivery = gave.delivery;
+    Carried {
+        regs: Regs {
+            queues: regs.queues,
+            block: regs.block,
+            depth: regs.depth,
+            phase: phase,
+            tail_fill: tail_fill,
+            head_fill: head_fill,
+            tail_mark: tail_mark,
+            head_mark: head_mark,
+        },
+        delivery: delivery,
+    }
+}
+
+// What a slot answers: the registers that it leaves, the paper's number, the delivery, the queues written and read.
+pub struct Advanced {
+    pub regs: Regs,
+    pub number: u8,
+    pub delivery: Delivery,
+    pub written: Chosen,
+    pub read: Chosen,
+}
+
+// One slot. It is judged before anything moves, so that a refused one has changed nothing; then the counts by queue and
+// the state go on.
+pub fn advance(
+    tail: &mut TailArray,
+    head: &mut HeadArray,
+    cells: &mut CellArray,
+    firsts: &mut RingArray,
+    stored: &mut RingArray,
+    tails: &mut CountArray,
+    heads: &mut CountArray,
+    owing: &mut CountArray,
+    regs: Regs,
+    arrival: Arrival,
+    request: Request,
+    store: &mut [u8],
+) -> Advanced
+    requires { ⌜ Ready regs (given tail head cells firsts stored)
+        (countsGiven tails heads owing) (now store) ⌝ }
+    ensures { λ r. ⌜ AdvanceSays
+        (stateIn regs (found tail head cells firsts stored))
+        (now (store .entry)) (callIn arrival request) r
+        (left tail head cells firsts stored)
+        (countsLeft tails heads owing) (now (store .exit))
+        × AsGiven regs
+        (found tail head cells firsts stored)
+        r
+        (left tail head cells firsts stored) ⌝ }
+{
+    let plan = slot_plan::decide(cells, tails, heads, owing, stored, regs, arrival, request);
+    let number = plan.number;
+    if number != 0 {
+        return Advanced {
+            regs: regs,
+            number: number,
+            delivery: Delivery::NoDelivery,
+            written: Chosen::Nothing,
+            read: Chosen::Nothing,
+        };
+    }
+    let owes = plan.owes;
+    let written = plan.written;
+    let read = plan.read;
+    let cell = cells[0];
+    slot_counts::turn(
+        tails,
+        heads,
+        owing,
+        regs,
+        cell,
+        arrival,
+        request,
+        owes,
+        written,
+        read,
+    );
+    let carried = carry(
+        tail,
+        head,
+        cells,
+        firsts,
+        stored,
+        regs,
+        arrival,
+        request,
+        owes,
+        written,
+        read,
+        store,
+    );
+    let next = carried.regs;
+    let delivery = carried.delivery;
+    Advanced {
+        regs: next,
+        number: 0,
+        delivery: delivery,
+        written: written,
+        read: read,
+    }
+}

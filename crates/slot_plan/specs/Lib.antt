@@ -1,0 +1,2 @@
+-- What a slot will do, before anything moves.
+pub mod Says

@@ -1,0 +1,45 @@
+-- What a slot will do, by the figures of a state and before anything moves. That it is what the paper's steps find on
+-- their way is in proofs/PaperPlan.antt.
+use mathlib.Core.Path.{_≡_}
+use mathlib.Core.Bool.{Bool}
+use mathlib.Core.List.{List, [], _∷_, _++_}
+use mathlib.Core.Option.{Option, none}
+use Prim.Native.Nat.{ℕ, _-_}
+use lib.Dec.{eqb}
+use lib.ListN.{drop}
+use Rattle.model.specs.Basics.{choose, when, firstRefusal}
+use Rattle.model.specs.Sizes.{Sizes}
+use Rattle.model.specs.State.{Cell}
+use Rattle.model.specs.Slot.{Call, oldestCell, fullest, refillQueue}
+use Rattle.layout.specs.Calls.{chosenIn}
+use Rattle.layout.specs.Figures.{Figures, newCell}
+use Rattle.lookahead.specs.Says.{spent}
+use Rattle.slot_counts.specs.Says.{tailsAsked}
+use Rattle.slot_refusals.specs.Says.{owesNow, earlyNumber, fullNow}
+use Rattle.slot_plan.specs.declared.Plan.{Plan}
+
+-- The queue that the slot will write, by the tail bytes that its write finds.
+abbrev pub writeNow : ℕ → Sizes → (ℕ → ℕ) → Option ℕ
+writeNow phase s tails = choose (eqb phase (s .b - 1)) (fullest (s .b) tails (s .Q)) none
+
+-- The queue that the slot will read: the scan goes over the cells without the oldest and with the new one.
+abbrev pub readNow : ℕ → Sizes → (ℕ → ℕ) → List Cell → Bool → Option ℕ → Option ℕ
+readNow phase s heads cells owing request =
+    choose (eqb phase (s .b - 1))
+    (refillQueue (spent heads (oldestCell cells)) (drop 1 cells ++ newCell owing request ∷ []))
+    none
+
+-- What a slot will do.
+pub record PlanSays (f : Figures) (phase fill : ℕ) (cells : List Cell) (call : Call) (r : Plan) : Type 0 where
+  pub number-is : r .number ≡
+      firstRefusal (
+      earlyNumber f (owesNow f (call .request)) (oldestCell cells) call ∷
+      when (fullNow (f .sizes) fill (oldestCell cells)
+      (readNow phase (f .sizes) (f .heads) cells (owesNow f (call .request)) (call .request))) 10 ∷ [])
+  pub owes-is : r .number ≡ 0 → r .owes ≡ owesNow f (call .request)
+  pub written-is : r .number ≡ 0
+      → chosenIn (r .written)
+      ≡ writeNow phase (f .sizes) (tailsAsked (owesNow f (call .request)) call (f .tails))
+  pub read-is : r .number ≡ 0
+      → chosenIn (r .read)
+      ≡ readNow phase (f .sizes) (f .heads) cells (owesNow f (call .request)) (call .request)

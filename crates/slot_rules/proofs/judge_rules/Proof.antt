@@ -163,7 +163,7 @@ returns c =
     let here = tail-to-numbers tail in
     let start = start-of here in
     let counts : Tallies (stateOf start)
-        (byQueue (tails .tally .result) (heads .tally2 .result) (owed .tally-owed .result))
+    (byQueue (tails .tally .result) (heads .tally2 .result) (owed .tally-owed .result))
     = record {
       tails-are = tails .tally .ensures;
       heads-are = heads .tally2 .ensures;

@@ -11,3 +11,5 @@ pub mod Fits
 pub mod Rings
 -- A state from its parts.
 pub mod States
+-- A small state and its call, read.
+pub mod Example

@@ -7,3 +7,4 @@ pub mod Counts
 pub mod Views
 pub mod Lent
 pub mod Figures
+pub mod Example

@@ -1,5 +1,6 @@
 // How a state lies in registers and arrays, and what a slot is asked and answers: values, types and lengths that the
 // crates above share.
+ghost use Rattle.layout.specs.Example.{ExampleReads};
 
 // The byte that arrives, as queue and value, or none.
 pub enum Arrival {
@@ -66,3 +67,8 @@ pub struct Regs {
     pub tail_mark: usize,
     pub head_mark: usize,
 }
+
+// A small state, its call and its answer, read out of registers, arrays and values.
+pub fn example_reads()
+    ensures { λ _. ⌜ ExampleReads ⌝ }
+{}

@@ -1,36 +1,37 @@
 -- Demand 3. Every list from a fresh state meets it, with any store: its states keep the rules and the invariant, so
 -- that 8, 9 and 10 never come; its accepted slots are slots of the ideal buffer, so that the delay is fixed. With a
 -- store that is too short no slot is accepted, and the same argument holds. `demand-3` says it.
-use mathlib.Core.Path.{_≡_, refl, ap, _∙_, fun-ext, subst}
+use mathlib.Core.Path.{_≡_, refl, ap, sym, _∙_, fun-ext, subst}
 use mathlib.Core.Bool.{Bool, true, false, not}
 use mathlib.Core.List.{List, [], _∷_, _++_, append-nil}
 use mathlib.Core.Option.{Option, none}
 use Prim.Native.Nat.{ℕ, zero, suc, _<_, _≤_}
 use native.Mathlib.Omega.{arith}
 use lib.Dec.{ltb}
-use lib.ListN.{length, drop, take, replicate}
+use lib.ListN.{length, drop, take, replicate, length-append}
 use lib.Seq.{drop-nil}
 use borrow.Author.Tests.{le-leb, le-ltb}
 use Rattle.model.specs.Basics.{tabulate, All, when}
 use Rattle.model.specs.Sizes.{Sizes, Limits, accepts, span, lookahead, storeBytes, full}
 use Rattle.model.specs.State.{Byte, empty, State, fresh, owedOf, keeps}
 use Rattle.model.specs.Slot.{Call, oldestCell, wrote, queueToRead, arrivalUnknown, arrivalFull, requestUnknown}
-use Rattle.model.specs.Slot.{nothingToTake, leavesUncovered, tailFull, headFull, refusals, Answer}
-use Rattle.model.specs.Lists.{Step, stepOf, Chain, no-call, next-call, stepsOf, listOf, accepted, requestAt}
-use Rattle.model.specs.Lists.{dueToAll}
+use Rattle.model.specs.Slot.{arriving, nothingToTake, leavesUncovered, tailFull, headFull, refusals, Answer}
+use Rattle.model.specs.Lists.{Step, stepOf, Chain, stepsOf, listOf, accepted, requestAt, dueToAll}
 use Rattle.model.specs.Ideal.{Ideal, lineOf, standsFor}
-use Rattle.model.specs.Demand.{CachesHold, NoMiss, ListMeets, Demand-3}
+use Rattle.model.specs.Demand.{CachesHold, NoMiss, RefusedSilent, ListMeets, Demand-3}
 use Rattle.model.proofs.basics.AllOf.{_also_}
 use Rattle.model.proofs.basics.Tests.{and-both, between-holds}
 use Rattle.model.proofs.basics.FirstRefusal.{not-first, when-excluded}
 use Rattle.model.proofs.basics.Rings.{ring-fresh}
+use Rattle.model.proofs.meaning.Steps.{tail-looked-at, head-looked-at}
 use Rattle.model.proofs.one_slot.Rules.{Keeps, keeps-holds}
 use Rattle.model.proofs.one_slot.Kept.{length-joined, accept-kept}
 use Rattle.model.proofs.one_slot.Calls.{AnswerForm, form-refused, form-accepted, promised-form, answersOf}
 use Rattle.model.proofs.one_slot.Calls.{run-steps, run-chain}
-use Rattle.model.proofs.no_miss.Good.{Good, form-good, good-fresh}
+use Rattle.model.proofs.one_slot.Links.{Links, no-link, other-marks, next-link, chain-links}
+use Rattle.model.proofs.no_miss.Good.{Good, form-good, good-fresh, good-marks}
 use Rattle.model.proofs.delay.IdealSlot.{same-ideal}
-use Rattle.model.proofs.delay.Delay.{Delays, gives, chain-delays, given-is-due, due-from-nothing}
+use Rattle.model.proofs.delay.Delay.{Delays, gives, links-delays, given-is-due, due-from-nothing}
 use Rattle.model.proofs.delay.Delay.{arrived-since-fresh}
 use Rattle.model.proofs.delay.Sentences.{sentences}
 use Rattle.model.proofs.missing.Misses.{misses}
@@ -40,11 +41,13 @@ module _ (limits : Limits) where
   along : (P : Step → Type 0) (s : Sizes) (n : ℕ)
       → ((x : State) (store : List ℕ) (call : Call) (a : Answer) → Good limits x → x .sizes ≡ s → length store ≡ n
       → AnswerForm (full limits) x store call a → P (stepOf x store call a))
-      → {x : State} {store : List ℕ} {calls : List Call} {answers : List Answer}
+      → {x : State} {store : List ℕ} {steps : List Step}
       → Good limits x → x .sizes ≡ s → length store ≡ n
-      → Chain (full limits) x store calls answers → All P (stepsOf x store calls answers)
-  along P s n f g e l no-call = tt
-  along P s n f g e l (next-call {x = x} {store = store} {call = call} {a = a} p c) =
+      → Links (full limits) x store steps → All P steps
+  along P s n f g e l no-link = tt
+  along P s n f g e l (other-marks {x = x} {y = y} m v c) =
+      along P s n f (good-marks limits x y m v g) (sym (m .same-sizes) ∙ e) l c
+  along P s n f g e l (next-link {x = x} {store = store} {call = call} {a = a} p c) =
       let t = promised-form (full limits) x store call a p in
       let k = form-good limits x store call a g t in
       (f x store call a g e l t, along P s n f (k .good) (k .same-sizes ∙ e) (k .same-length ∙ l) c)
@@ -60,11 +63,31 @@ module _ (limits : Limits) where
   }
   call-caches x store call a g (form-accepted m n f r) =
       let k = accept-kept (full limits) x store call (omega arith) f .kept in record {
-        tail-joined = length-joined x (call .arrival) (g .kept .tail-fits) (f .judged .tail-room);
+        tail-joined =
+            omega (
+              arith,
+              tail-looked-at x call,
+              length-append (x .tail) (arriving (call .arrival)),
+              length-joined x (call .arrival) (g .kept .tail-fits) (f .judged .tail-room),
+            );
         tail-ends = k .tail-fits;
-        head-read = k .head-fits;
+        head-read = omega (arith, head-looked-at x store call, k .head-fits);
         head-ends = k .head-fits;
       }
+
+  -- A refused slot delivers nothing and moves nothing: its answer is `refuse`.
+  refused-silent : (x : State) (store : List ℕ) (call : Call) (a : Answer)
+      → AnswerForm (full limits) x store call a → RefusedSilent (stepOf x store call a)
+  refused-silent x store call a (form-refused n e) = record {
+    delivers-nothing = λ z. refl;
+    writes-nothing = λ z. refl;
+    reads-nothing = λ z. refl;
+  }
+  refused-silent x store call a (form-accepted m n f r) = record {
+    delivers-nothing = λ z. absurd (z refl);
+    writes-nothing = λ z. absurd (z refl);
+    reads-nothing = λ z. absurd (z refl);
+  }
 
   -- 8, 9 and 10 never come, since every refusal is 7 or lower.
   no-miss : (x : State) (store : List ℕ) (call : Call) (a : Answer) → Good limits x
@@ -105,7 +128,8 @@ module _ (limits : Limits) where
       → All (λ (step : Step). Keeps (full limits) (step .state)) (stepsOf x store calls answers)
   chain-keeps {x} {store} g c =
       along (λ (step : Step). Keeps (full limits) (step .state)) (x .sizes) (length store)
-      (λ y st call a v e l t. form-good limits y st call a v t .good .kept) g refl refl c
+      (λ y st call a v e l t. form-good limits y st call a v t .good .kept) g refl refl
+      (chain-links (full limits) c)
 
 -- A fresh state stands for the ideal buffer in which nothing waits and nothing comes.
 line-fresh : (streams : ℕ → List ℕ) (n : ℕ) → lineOf streams (replicate n empty) ≡ replicate n none
@@ -124,15 +148,15 @@ stands-fresh limits s store =
     owed-now : ℕ → ℕ
     owed-now q = owedOf q (replicate (lookahead s) empty)
 
-pub every-chain : (limits : Limits) (s : Sizes) (store : List ℕ) (calls : List Call) (answers : List Answer)
-    → accepts limits s ≡ true → Chain (full limits) (fresh (full limits) s) store calls answers
-    → ListMeets s store (stepsOf (fresh (full limits) s) store calls answers)
-every-chain limits s store calls answers e c = record {
+pub every-link : (limits : Limits) (s : Sizes) (store : List ℕ) (steps : List Step) → accepts limits s ≡ true
+    → Links (full limits) (fresh (full limits) s) store steps → ListMeets s store steps
+every-link limits s store steps e c = record {
   bytes = record {
     delay = d .delivers ∙ ap
         (λ (l : List (Option Byte)). take (length slots) (replicate (lookahead s) none ++ l)) due;
     in-time = arrived-since-fresh slots (d .finds);
   };
+  refused = all RefusedSilent (λ y st call a g f l t. refused-silent limits y st call a t);
   caches = all (CachesHold s) (λ y st call a g f l t.
       subst (λ (z : Sizes). CachesHold z (stepOf y st call a)) f (call-caches limits y st call a g t));
   no-miss = all NoMiss (λ y st call a g f l t. no-miss limits y st call a g t);
@@ -150,9 +174,6 @@ every-chain limits s store calls answers e c = record {
     good : Good limits x
     good = good-fresh limits s e
 
-    steps : List Step
-    steps = stepsOf x store calls answers
-
     all : (P : Step → Type 0)
         → ((y : State) (st : List ℕ) (call : Call) (a : Answer) → Good limits y → y .sizes ≡ s
         → length st ≡ length store → AnswerForm (full limits) y st call a → P (stepOf y st call a))
@@ -164,12 +185,18 @@ every-chain limits s store calls answers e c = record {
 
     d : Delays (quiet s) slots
     d = subst (λ (i : Ideal). Delays i slots) (stands-fresh limits s store)
-        (chain-delays (full limits) (omega arith) (good .kept) c)
+        (links-delays (full limits) (omega arith) (good .kept) c)
 
     due : gives (λ q. []) slots ≡ dueToAll slots
     due =
         given-is-due (λ q. []) slots (d .finds)
         ∙ ap (tabulate (length slots)) (fun-ext (λ t. due-from-nothing slots t (requestAt slots t)))
+
+-- A chain of calls is such a chain.
+pub every-chain : (limits : Limits) (s : Sizes) (store : List ℕ) (calls : List Call) (answers : List Answer)
+    → accepts limits s ≡ true → Chain (full limits) (fresh (full limits) s) store calls answers
+    → ListMeets s store (stepsOf (fresh (full limits) s) store calls answers)
+every-chain limits s store calls answers e c = every-link limits s store _ e (chain-links (full limits) c)
 
 -- A list of slots is a chain of calls.
 pub every-list : (limits : Limits) (s : Sizes) (store : List ℕ) (calls : List Call) → accepts limits s ≡ true

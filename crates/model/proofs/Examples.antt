@@ -1,8 +1,13 @@
--- Every row of document 01's table of examples holds of the definitions, by computing them: `examples-hold`.
+-- Every row of document 01's table of examples holds of the definitions, by computing them: `examples-hold`. No row of
+-- the false ones does: `false-examples-fail`.
 use mathlib.Core.Path.{_≡_, refl}
-use mathlib.Core.Bool.{true}
-use Rattle.model.specs.Basics.{allOf}
+use mathlib.Core.Bool.{true, false}
+use Rattle.model.specs.Basics.{allOf, someOf}
 use Rattle.model.specs.Examples.{holds, examples}
+use Rattle.model.specs.FalseExamples.{falseExamples}
 
 pub examples-hold : allOf holds examples ≡ true
 examples-hold = refl
+
+pub false-examples-fail : someOf holds falseExamples ≡ false
+false-examples-fail = refl

@@ -10,8 +10,8 @@ use Rattle.model.specs.Sizes.{sizes, paper}
 use Rattle.model.specs.State.{byte, empty, owed, fresh}
 use Rattle.model.specs.Slot.{refusal}
 use Rattle.model.specs.Calls.{arrival, request, both, idle}
-use Rattle.model.specs.Examples.{refused, _⇒_, made_phase_tail_head_cells_blocks_, slots, holds, sizesTaken}
-use Rattle.model.specs.Examples.{sizesRefused, sizesAre, blockIs, noBlock}
+use Rattle.model.specs.Examples.{refused, reads, _delivering_, _⇒_, made_phase_tail_head_cells_blocks_}
+use Rattle.model.specs.Examples.{slots, holds, sizesTaken, sizesRefused, sizesAre, blockIs, noBlock}
 
 -- The least and the greatest Q, b and K, and one beyond. Q(b - 1) is 2,016 in the last sizes taken and 2,020, the next
 -- that the other limits allow, in the last refused.
@@ -76,3 +76,10 @@ pub then-by-number : allOf holds (
     cells (replicate 2 empty ++ owed 0 ∷ []) blocks (1 ∷ 0 ∷ []))
     (arrival 0 66 ⇒ refused 9 ∷ []) ∷ []) ≡ true
 then-by-number = refl
+
+-- "10 is judged as step 4 finds the head": the byte that leaves in this slot makes room for the block.
+pub ten-as-step-4-finds : allOf holds (
+    slots paper (made (sizes 2 2 1) phase 1 tail [] head (replicate 4 (byte 1 65))
+    cells (owed 1 ∷ empty ∷ owed 0 ∷ []) blocks (1 ∷ 0 ∷ []))
+    (idle ⇒ reads 0 delivering byte 1 65 ∷ []) ∷ []) ≡ true
+ten-as-step-4-finds = refl

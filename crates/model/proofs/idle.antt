@@ -2,5 +2,5 @@
 pub mod QuietSlot
 pub mod QuietSlots
 pub mod EmptySlots
-pub mod Stuck
 pub mod QuietCount
+pub mod Stretch

@@ -7,4 +7,5 @@ pub mod Accepted
 pub mod Kept
 pub mod Elsewhere
 pub mod Calls
+pub mod Links
 pub mod Lists

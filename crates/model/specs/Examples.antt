@@ -14,7 +14,9 @@ use Rattle.model.specs.State.{withPhase, withTail, withHead, withCells, 
 use Rattle.model.specs.Slot.{Call, oldestCell, Answer, slot}
 use Rattle.model.specs.Calls.{arrival, request, both, idle}
 
--- What a slot is to answer. Each also says which block moves: none, but for the write or the read that it names.
+-- What a slot is to answer. Each also says which block moves and what is delivered: none and nothing, but for what it
+-- names.
+infix 80 _delivering_
 pub data Outcome : Type 0 where
   taken : Outcome
   -- Taken, and the block of this queue that moves.
@@ -25,6 +27,8 @@ pub data Outcome : Type 0 where
   refused : ℕ → Outcome
   -- Refused with 8, and the cell that was to leave is Owed to this queue.
   misses : ℕ → Outcome
+  -- An outcome, and the byte that is delivered with it.
+  _delivering_ : Outcome → Byte → Outcome
 
 -- A slot of a list beside the outcome that is expected of it.
 infix 70 _⇒_
@@ -52,12 +56,19 @@ made s phase p tail ts head hs cells cs blocks ns =
     (withRings (map (ring 0) ns)
     (fresh paper s)))))))
 
--- Tests: two numbers or none are the same; a cell is Held with this queue and byte; the youngest of some cells.
+-- Tests: two numbers or none are the same, and two bytes or none; a cell is Held with this queue and byte; the
+-- youngest of some cells.
 abbrev same : Option ℕ → Option ℕ → Bool
 same none none = true
 same none (some n) = false
 same (some m) none = false
 same (some m) (some n) = eqb m n
+
+abbrev sameByte : Option Byte → Option Byte → Bool
+sameByte none none = true
+sameByte none (some y) = false
+sameByte (some x) none = false
+sameByte (some x) (some y) = eqb (x .queue) (y .queue) && eqb (x .value) (y .value)
 
 abbrev isHeld : ℕ → ℕ → Cell → Bool
 isHeld q v empty = false
@@ -67,27 +78,30 @@ isHeld q v (owed p) = false
 abbrev youngestOf : List Cell → Cell
 youngestOf cs = getD cs (length cs - 1) empty
 
--- A slot's answer has this number, and these are the queues written and read.
-abbrev answers : ℕ → Option ℕ → Option ℕ → Answer → Bool
-answers number written read a = allTrue (
+-- A slot's answer has this number and this delivery, and these are the queues written and read.
+abbrev answers : ℕ → Option Byte → Option ℕ → Option ℕ → Answer → Bool
+answers number delivered written read a = allTrue (
     eqb (a .number) number ∷
+    sameByte (a .delivered) delivered ∷
     same (a .written) written ∷
     same (a .read) read ∷ [])
 
--- A refused slot hands its state back as given, so that the cell that was to leave is there still.
-abbrev meets : Outcome → Answer → Bool
-meets taken a = answers 0 none none a
-meets (writes q) a = answers 0 (some q) none a
-meets (reads q) a = answers 0 none (some q) a
-meets (takenHeld q v) a = answers 0 none none a && isHeld q v (youngestOf (a .state .cells))
-meets (refused n) a = answers n none none a
-meets (misses q) a = answers 8 none none a && eqb (owes q (oldestCell (a .state .cells))) 1
+-- An answer is this outcome with this delivery. A refused slot hands its state back as given, so that the cell that was
+-- to leave is there still.
+abbrev meets : Outcome → Option Byte → Answer → Bool
+meets taken y a = answers 0 y none none a
+meets (writes q) y a = answers 0 y (some q) none a
+meets (reads q) y a = answers 0 y none (some q) a
+meets (takenHeld q v) y a = answers 0 y none none a && isHeld q v (youngestOf (a .state .cells))
+meets (refused n) y a = answers n y none none a
+meets (misses q) y a = answers 8 y none none a && eqb (owes q (oldestCell (a .state .cells))) 1
+meets (outcome delivering x) y a = meets outcome (some x) a
 
 -- Each slot has its outcome, and gets state and store as the one before left them.
 abbrev allMeet : Design → State → List ℕ → List Expected → Bool
 allMeet design x store [] = true
 allMeet design x store ((call ⇒ outcome) ∷ expected) =
-    let a = slot design x store call in meets outcome a && allMeet design (a .state) (a .store) expected
+    let a = slot design x store call in meets outcome none a && allMeet design (a .state) (a .store) expected
 
 -- What rests on Q and b alone is taken with K 1. A list of slots gets a store that is just long enough.
 abbrev pub holds : Example → Bool
@@ -128,7 +142,7 @@ examples =
     request 0 ⇒ taken ∷
     arrival 0 67 ⇒ refused 5 ∷
     idle ⇒ reads 0 ∷
-    arrival 0 67 ⇒ taken ∷ []) ∷
+    arrival 0 67 ⇒ taken delivering byte 0 65 ∷ []) ∷
     -- C9: "empty queue, arrival and request of it in one slot: taken, Held." With b 1 the byte would be a block, and it
     -- does not go to slow store.
     slots paper (fresh paper (sizes 1 1 1))
@@ -136,26 +150,31 @@ examples =
     -- "The request without the arrival: 7."
     slots paper (fresh paper (sizes 1 1 1))
     (request 0 ⇒ refused 7 ∷ []) ∷
+    -- The same where a byte is about to leave: a refused slot delivers nothing, and the next slot delivers it.
+    slots paper (fresh paper (sizes 1 1 1))
+    (both 0 65 0 ⇒ takenHeld 0 65 ∷ request 0 ⇒ refused 7 ∷ idle ⇒ taken delivering byte 0 65 ∷ []) ∷
     -- Both of queue 1, with bytes of queue 0 in either cache.
     slots paper (made (sizes 2 2 1) phase 0 tail (byte 0 66 ∷ []) head (byte 0 65 ∷ [])
     cells (replicate 3 empty) blocks (0 ∷ 0 ∷ []))
     (request 1 ⇒ refused 7 ∷
     both 1 67 1 ⇒ takenHeld 1 67 ∷ []) ∷
     -- C10: "Q 2, b 2, a block of each queue stored, phase 0: request 1, then 0. The first read is of queue 1, the next
-    -- of queue 0."
+    -- of queue 0." The store holds zeros, and so do the bytes delivered.
     slots paper (made (sizes 2 2 1) phase 0 tail [] head [] cells (replicate 3 empty) blocks (1 ∷ 1 ∷ []))
-    (request 1 ⇒ taken ∷ request 0 ⇒ reads 1 ∷ idle ⇒ taken ∷ idle ⇒ reads 0 ∷ idle ⇒ taken ∷ []) ∷
+    (request 1 ⇒ taken ∷ request 0 ⇒ reads 1 ∷ idle ⇒ taken ∷
+    idle ⇒ reads 0 delivering byte 1 0 ∷ idle ⇒ taken delivering byte 0 0 ∷ []) ∷
     -- "With 2 cells instead of 3, queue 0 misses."
     slots (oneFewer paperLimits)
     (made (sizes 2 2 1) phase 0 tail [] head [] cells (replicate 2 empty) blocks (1 ∷ 1 ∷ []))
-    (request 1 ⇒ taken ∷ request 0 ⇒ reads 1 ∷ idle ⇒ taken ∷ idle ⇒ misses 0 ∷ []) ∷
+    (request 1 ⇒ taken ∷ request 0 ⇒ reads 1 ∷ idle ⇒ taken delivering byte 1 0 ∷ idle ⇒ misses 0 ∷ []) ∷
     -- Both from a fresh state, where arrivals store the blocks.
     slots paper (fresh paper (sizes 2 2 1))
     (arrival 0 65 ⇒ taken ∷ arrival 0 66 ⇒ writes 0 ∷ arrival 1 67 ⇒ taken ∷ arrival 1 68 ⇒ writes 1 ∷
-    request 1 ⇒ taken ∷ request 0 ⇒ reads 1 ∷ idle ⇒ taken ∷ idle ⇒ reads 0 ∷ idle ⇒ taken ∷ []) ∷
+    request 1 ⇒ taken ∷ request 0 ⇒ reads 1 ∷ idle ⇒ taken ∷
+    idle ⇒ reads 0 delivering byte 1 67 ∷ idle ⇒ taken delivering byte 0 65 ∷ []) ∷
     slots (oneFewer paperLimits) (fresh (oneFewer paperLimits) (sizes 2 2 1))
     (arrival 0 65 ⇒ taken ∷ arrival 0 66 ⇒ writes 0 ∷ arrival 1 67 ⇒ taken ∷ arrival 1 68 ⇒ writes 1 ∷
-    request 1 ⇒ taken ∷ request 0 ⇒ reads 1 ∷ idle ⇒ taken ∷ idle ⇒ misses 0 ∷ []) ∷
+    request 1 ⇒ taken ∷ request 0 ⇒ reads 1 ∷ idle ⇒ taken delivering byte 1 67 ∷ idle ⇒ misses 0 ∷ []) ∷
     -- C11: "a made state, Q 1, b 2, K 1, one block, empty head, oldest cell Owed and the other empty, idle slot: 8."
     -- It names no phase, so in both; a read in the same slot comes too late.
     slots paper (made (sizes 1 2 1) phase 0 tail [] head [] cells (owed 0 ∷ empty ∷ []) blocks (1 ∷ []))

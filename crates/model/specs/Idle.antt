@@ -4,14 +4,15 @@ use mathlib.Core.Path.{_≡_}
 use mathlib.Core.Bool.{Bool, true, false}
 use mathlib.Core.List.{List, [], _∷_, _++_}
 use mathlib.Core.Option.{Option, some, none}
-use Prim.Native.Nat.{ℕ, suc, _+_, _-_, _%_, _≤_, _<_, min}
+use Prim.Native.Nat.{ℕ, zero, suc, _+_, _-_, _%_, _≤_, _<_, min}
 use lib.Dec.{eqb}
 use lib.ListN.{length, drop, replicate, getD}
 use Rattle.model.specs.Basics.{choose}
-use Rattle.model.specs.Sizes.{Sizes, lookahead}
+use Rattle.model.specs.Sizes.{Sizes, Design, lookahead}
 use Rattle.model.specs.State.{Cell, empty, held, owed, State, withPhase, withCells, tailBytes, headBytes}
-use Rattle.model.specs.Slot.{fullest, refillQueue}
-use Rattle.model.specs.Lists.{Step}
+use Rattle.model.specs.Slot.{fullest, refillQueue, refusal, Answer, slot}
+use Rattle.model.specs.Calls.{idle, idles}
+use Rattle.model.specs.Lists.{Step, lastState, lastStore}
 
 -- The state after m slots that only turn the phase.
 abbrev pub turned : ℕ → State → State
@@ -69,3 +70,24 @@ moveDue s tails heads cells =
 abbrev pub quietOf : Sizes → ℕ → ℕ → Bool → ℕ → ℕ
 quietOf s phase empties true n = min n (min empties (s .b - 1 - phase))
 quietOf s phase empties false n = choose (eqb empties (lookahead s)) n (min n empties)
+
+-- The same by the state's own sizes, phase, cells and counts; none, where the first of the slots is refused. (With 3 or
+-- 2, that is: where 8 or 10 would come, none is counted anyhow.)
+abbrev pub quietFirst : Design → State → List ℕ → ℕ → ℕ
+quietFirst design x store n =
+    choose (eqb (refusal design x store idle) 0)
+    (quietOf (x .sizes) (x .phase) (leadingEmpties (x .cells))
+    (moveDue (x .sizes) (tailBytes x) (headBytes x) (x .cells)) n)
+    0
+
+-- How many slots a stretch of at most n idle slots has: the quiet ones at its start, and one more if n is not used up.
+-- That one may deliver, move a block or be refused.
+abbrev pub stretchLength : Design → State → List ℕ → ℕ → ℕ
+stretchLength design x store n = min n (quietFirst design x store n + 1)
+
+-- What the last of n idle slots answers. No slot at all answers 0 and nothing else, and leaves all as it was.
+abbrev pub lastAnswer : Design → State → List ℕ → ℕ → Answer
+lastAnswer design x store zero =
+    record { number = 0; delivered = none; written = none; read = none; state = x; store = store }
+lastAnswer design x store (suc n) =
+    slot design (lastState design x store (idles n)) (lastStore design x store (idles n)) idle

@@ -11,3 +11,5 @@ pub mod Ideal
 pub mod Demand
 pub mod Idle
 pub mod Examples
+pub mod FalseExamples
+pub mod Worked

@@ -1,12 +1,14 @@
 // The model of document 01: its definitions are in specs/, one file for each section, and their theory in proofs/.
-// No function here makes a state or runs a slot. These two tie demand 3 and the paper's examples to contracts, so that
-// the gate must prove them.
+// No function here makes a state or runs a slot. These tie demand 3, the paper's examples and slots worked by hand to
+// contracts, so that the gate must prove them.
 ghost use mathlib.Core.Path.{_≡_};
-ghost use mathlib.Core.Bool.{true};
-ghost use Rattle.model.specs.Basics.{allOf};
+ghost use mathlib.Core.Bool.{true, false};
+ghost use Rattle.model.specs.Basics.{allOf, someOf};
 ghost use Rattle.model.specs.Sizes.{Limits};
 ghost use Rattle.model.specs.Demand.{Demand-3};
 ghost use Rattle.model.specs.Examples.{examples, holds};
+ghost use Rattle.model.specs.FalseExamples.{falseExamples};
+ghost use Rattle.model.specs.Worked.{WorkedSlots, WorkedBlocks, WorkedIdle};
 
 // Demand 3, under any limits of the sizes.
 pub fn demand_3()
@@ -16,4 +18,14 @@ pub fn demand_3()
 // "C1 to C12 are proved of the definitions, as one table with one theorem for all rows."
 pub fn examples_hold()
     ensures { λ _. ⌜ allOf holds examples ≡ true ⌝ }
+{}
+
+// No row that says one thing otherwise holds, so that a row says what it seems to say.
+pub fn false_examples_fail()
+    ensures { λ _. ⌜ someOf holds falseExamples ≡ false ⌝ }
+{}
+
+// Slots worked by hand: ten with all that each says, where blocks lie, idle ones.
+pub fn worked_slots()
+    ensures { λ _. ⌜ WorkedSlots × WorkedBlocks × WorkedIdle ⌝ }
 {}

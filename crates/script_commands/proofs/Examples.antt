@@ -3,8 +3,10 @@
 use mathlib.Core.Path.{_≡_, refl}
 use mathlib.Core.List.{List, [], _∷_, map}
 use Prim.Native.Nat.{ℕ}
+use native.Mathlib.Omega.{arith}
 use Rattle.script_commands.specs.declared.Command as code
 use Rattle.script_commands.specs.declared.Command.the-variants.{Sizes, Idle, Arrive, Ask, Both, Idles, End}
+use Rattle.script_commands.specs.Commands.{OperandsFit}
 use Rattle.script_commands.specs.Scripts.{Script, judgeFrom, judge, scriptBytes}
 use Rattle.script_commands.specs.Values.{commandIn}
 
@@ -65,6 +67,10 @@ listings-good = (refl, refl)
 pub listings-written :
     (scriptBytes (map commandIn listed) ≡ listing) × (scriptBytes (map commandIn distinctly) ≡ distinct)
 listings-written = (refl, refl)
+
+-- "Operands of one byte each unless said": the greatest operands fit, and so are among those that read back.
+pub greatest-fit : OperandsFit (commandIn (Both 255 255 255)) × OperandsFit (commandIn (Idles 65535))
+greatest-fit = ((omega arith, (omega arith, (omega arith, tt))), (omega arith, tt))
 
 -- A script and what is to come of it: a refusal's number and its offset, 0 and 0 for a good script.
 record Example : Type 0 where

@@ -1,7 +1,7 @@
 -- Document 01's listing, and scripts of which each shows a sentence of "Scripts": the definitions compute to these very
--- bytes; and the store that the listing leaves.
+-- bytes; and the store that a script leaves.
 use mathlib.Core.Path.{_≡_, refl}
-use mathlib.Core.List.{List, [], _∷_, map}
+use mathlib.Core.List.{List, [], _∷_, _++_, map}
 use Prim.Native.Nat.{ℕ}
 use Prim.Native.Char.{code}
 use Prim.Native.String.{String, [] as no-text, _∷_ as _then_}
@@ -105,6 +105,31 @@ start-refusals-print : AsPrinted startRefusals
 unfolding scriptLines judge judgeFrom decimal lineText
 start-refusals-print = refl
 
+-- Where nothing runs the store is left as it came: on a refusal of the script, or of its sizes or its store; and where
+-- the input is too long, here a script that else would write a byte.
+abbrev storeOf : Example → List ℕ
+storeOf row = replicate (row .storeLength) 0xff
+
+refusals-leave : map (λ (row : Example). scriptStore (row .script) (storeOf row)) (scriptRefusals ++ startRefusals)
+    ≡ map storeOf (scriptRefusals ++ startRefusals)
+unfolding scriptStore judge judgeFrom
+refusals-leave = refl
+
+abbrev writingFor : ℕ → List ℕ
+writingFor n =
+    0x10 ∷ 0x01 ∷ 0x01 ∷ 0x01 ∷
+    0x01 ∷ 0x00 ∷ 0x41 ∷
+    replicate n 0x00 ++
+    0x05 ∷ []
+
+long-input-leaves : scriptStore (writingFor 65_529) (0xff ∷ []) ≡ (0xff ∷ [])
+unfolding scriptStore
+long-input-leaves = refl
+
+short-input-writes : scriptStore (writingFor 9) (0xff ∷ []) ≡ (0x41 ∷ [])
+unfolding scriptStore judge judgeFrom
+short-input-writes = refl
+
 -- "R t n (slot about to run, refusal) .. E t (slots accepted)": a refused slot has no number, so that t may come again.
 -- "A 16-bit count, low byte first, of idle slots (0 is none)": 259 and none.
 abbrev counts : List Example
@@ -121,6 +146,29 @@ counts =
 counts-print : AsPrinted counts
 unfolding scriptLines judge judgeFrom decimal lineText
 counts-print = refl
+
+-- Q 3, b 1, K 2, and operands that tell their places: a byte of queue 0 arrives while queue 2 is asked, each of which
+-- then delivers its own; queue 3 is unknown; queue 1 is full after two blocks.
+abbrev operandPlaces : List Example
+operandPlaces =
+    example
+    (0x10 ∷ 0x03 ∷ 0x01 ∷ 0x02 ∷
+    0x01 ∷ 0x02 ∷ 0x42 ∷
+    0x03 ∷ 0x00 ∷ 0x41 ∷ 0x02 ∷
+    0x00 ∷
+    0x02 ∷ 0x00 ∷
+    0x00 ∷
+    0x01 ∷ 0x03 ∷ 0x43 ∷
+    0x01 ∷ 0x01 ∷ 0x44 ∷
+    0x01 ∷ 0x01 ∷ 0x45 ∷
+    0x01 ∷ 0x01 ∷ 0x46 ∷
+    0x05 ∷ [])
+    6
+    "D 2 2 66\nD 4 0 65\nR 5 4\nR 7 5\nE 7\n" ∷ []
+
+operand-places-print : AsPrinted operandPlaces
+unfolding scriptLines judge judgeFrom decimal lineText
+operand-places-print = refl
 
 -- "lends a store of 65,536": what the program prints for the listing, for sizes that need 65,536 bytes of store, and
 -- for sizes that need 65,540.

@@ -1,6 +1,6 @@
 -- The fixed delay. The accepted slots of a list are slots of the ideal buffer, whose line is a delay line: what its
 -- slots deliver is the line as it stood and then what each request was given; and what a request was given is what is
--- due to it. All of it holds from every state that keeps the rules, for any number of cells. `chain-delays`,
+-- due to it. All of it holds from every state that keeps the rules, for any number of cells. `links-delays`,
 -- `given-is-due` and `arrived-since-fresh` say it.
 use mathlib.Core.Path.{_≡_, refl, ap, sym, _∙_, fun-ext, subst}
 use mathlib.Core.List.{List, [], _∷_, _++_, append-assoc}
@@ -14,12 +14,13 @@ use Rattle.model.specs.Basics.{tabulate}
 use Rattle.model.specs.Sizes.{Design}
 use Rattle.model.specs.State.{Byte, State, valuesOf}
 use Rattle.model.specs.Slot.{Call, asByte, arriving, Answer, accept}
-use Rattle.model.specs.Lists.{Chain, no-call, next-call, stepsOf, Step, stepOf, accepted, deliveries, arrivalsOf}
-use Rattle.model.specs.Lists.{asks, requestsOf, requestAt, dueTo}
+use Rattle.model.specs.Lists.{Step, stepOf, accepted, deliveries, arrivalsOf, asks, requestsOf, requestAt, dueTo}
 use Rattle.model.specs.Ideal.{Ideal, soonest, waitingWith, nextByteOf, idealSlot, standsFor, stream, IsIdealSlot}
 use Rattle.model.proofs.basics.Tests.{eqb-same, none-not-some}
 use Rattle.model.proofs.one_slot.Rules.{Keeps}
+use Rattle.model.proofs.meaning.Marks.{by-marks}
 use Rattle.model.proofs.one_slot.Calls.{AnswerForm, form-refused, form-accepted, promised-form, form-kept}
+use Rattle.model.proofs.one_slot.Links.{Links, no-link, other-marks, next-link}
 use Rattle.model.proofs.delay.Line.{line-length, first-append}
 use Rattle.model.proofs.delay.IdealSlot.{accepted-is-ideal}
 
@@ -80,15 +81,18 @@ module _ (design : Design) where
       ideal : IsIdealSlot x store call (accept x store call)
       ideal = accepted-is-ideal design x store call h (f .judged)
 
-  pub chain-delays : {x : State} {store : List ℕ} {calls : List Call} {answers : List Answer}
-      → 1 ≤ design .cellCount (x .sizes) → Keeps design x → Chain design x store calls answers
-      → Delays (standsFor x store) (accepted (stepsOf x store calls answers))
-  chain-delays h v no-call = record { delivers = refl; finds = tt }
-  chain-delays h v (next-call {x = x} {store = store} {call = call} {calls = calls} {a = a} {answers = answers} p c) =
+  pub links-delays : {x : State} {store : List ℕ} {steps : List Step}
+      → 1 ≤ design .cellCount (x .sizes) → Keeps design x → Links design x store steps
+      → Delays (standsFor x store) (accepted steps)
+  links-delays h v no-link = record { delivers = refl; finds = tt }
+  links-delays h v (other-marks {x = x} {y = y} {store = store} {steps = steps} s w l) =
+      subst (λ (i : Ideal). Delays i (accepted steps))
+      (by-marks (λ z. standsFor z store ≡ standsFor x store) x y s (λ m n. refl))
+      (links-delays (rw (sym (s .same-sizes)) h) w l)
+  links-delays h v (next-link {x = x} {store = store} {call = call} {a = a} {steps = steps} p l) =
       let t = promised-form design x store call a p in
       let k = form-kept design x store call a h v t in
-      call-delays x store call a (stepsOf (a .state) (a .store) calls answers) h v t
-      (chain-delays (rw (k .same-sizes) h) (k .kept) c)
+      call-delays x store call a steps h v t (links-delays (rw (k .same-sizes) h) (k .kept) l)
 
 -- What a request was given is what is due to it, where `w` waited before the list began.
 abbrev dueFrom : (ℕ → List ℕ) → List Step → ℕ → Option ℕ → Option Byte

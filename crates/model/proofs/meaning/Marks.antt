@@ -12,7 +12,7 @@ use Rattle.model.specs.State.{SameButMarks}
 use Rattle.model.specs.Slot.{Call, oldestCell, delivery, afterDelivery, afterArrival, afterRequest, answer, slot}
 use Rattle.model.specs.Slot.{queueToWrite, afterWrite, storeWritten, queueToRead, afterRead, afterPhase, joined}
 use Rattle.model.specs.Slot.{asked, wrote, wroteStore, refilled, arrivalUnknown, arrivalFull, requestUnknown}
-use Rattle.model.specs.Slot.{nothingToTake, leavesUncovered, tailFull, headFull, refusal, Answer, accept}
+use Rattle.model.specs.Slot.{nothingToTake, leavesUncovered, tailFull, headFull, refusal, Answer, accept, refuse}
 use Rattle.model.proofs.basics.States as states
 
 -- Two answers that are the same but for the marks of the states that they leave.
@@ -33,7 +33,7 @@ remarked x y s =
     (s .same-head) (s .same-cells) (s .same-rings) refl refl
 
 -- A fact of every state that is the same but for its marks.
-by-marks : (P : State → Type 0) (x y : State) → SameButMarks x y → ((m n : ℕ) → P (withMarks m n x)) → P y
+pub by-marks : (P : State → Type 0) (x y : State) → SameButMarks x y → ((m n : ℕ) → P (withMarks m n x)) → P y
 by-marks P x y s f = subst P (remarked x y s) (f (y .tailMark) (y .headMark))
 
 -- Each step keeps the likeness: with other marks it computes to the same items.
@@ -154,14 +154,7 @@ module _ (x y : State) (store : List ℕ) (call : Call) (s : SameButMarks x y) w
 
   agree : (n : ℕ) → AgreeButMarks (answer n x store call) (answer n y store call)
   agree zero = agree-accepted
-  agree (suc n) = record {
-    same-number = refl;
-    same-delivered = refl;
-    same-written = refl;
-    same-read = refl;
-    same-state = s;
-    same-store = refl;
-  }
+  agree (suc n) = by-marks (λ z. AgreeButMarks (refuse (suc n) x store) (refuse (suc n) z store)) x y s (λ k m. search)
 
   same-refusal : (design : Design) → keeps design x ≡ keeps design y
       → refusal design x store call ≡ refusal design y store call

@@ -5,10 +5,10 @@ use mathlib.Core.Path.{_≡_, refl, ap, _∙_}
 use mathlib.Core.Bool.{Bool, true, false, not}
 use mathlib.Core.List.{List, _++_}
 use mathlib.Core.Option.{Option, some, none}
-use Prim.Native.Nat.{ℕ, _+_, _-_, _*_, _<_, _≤_}
+use Prim.Native.Nat.{ℕ, _+_, _-_, _*_, _<_, _≤_, max}
 use native.Mathlib.Omega.{arith}
 use lib.Dec.{eqb, ltb}
-use lib.ListN.{length, drop, length-replicate}
+use lib.ListN.{length, drop, length-replicate, length-append}
 use borrow.Author.Tests.{ltb-true, ltb-false, ne-eqb, eqb-true, eq-eqb, not-true}
 use Rattle.model.specs.Basics.{choose}
 use Rattle.model.specs.Sizes.{Sizes, sizes, Limits, Design, full, oneFewer, cycleTime}
@@ -17,6 +17,7 @@ use Rattle.model.specs.State.{blocks}
 use Rattle.model.specs.Slot.{Call, oldestOf, heldCell, youngestCell, arrivalFull, without, oldestCell, deliveryOf}
 use Rattle.model.specs.Slot.{arriving, isOwed, tailLeft, moves, fullest, queueToWrite, refillQueue, queueToRead}
 use Rattle.model.specs.Slot.{joined, nothingToTake, accept}
+use Rattle.model.specs.Lists.{joinedFillOf, readFillOf}
 use Rattle.model.proofs.basics.Tests.{by-test, and-left, and-right}
 use Rattle.model.proofs.basics.AllOf.{all-below-facts}
 use Rattle.model.proofs.basics.Bytes.{values-without-same}
@@ -80,6 +81,25 @@ move-reads-scan y t = ap (readFrom y) t
 
 pub no-move-no-read : (y : State) → moves y ≡ false → queueToRead y ≡ none
 no-move-no-read y t = ap (readFrom y) t
+
+-- "The tail also just after the arrival joins it": its bytes as handed in, and the arriving one.
+pub tail-looked-at : (x : State) (call : Call)
+    → joinedFillOf 0 x call ≡ length (x .tail) + length (arriving (call .arrival))
+tail-looked-at x call = length-append (x .tail) (arriving (call .arrival))
+
+-- "The head also just after the read": nothing leaves it after that, so that it is the head as the slot ends.
+pub head-looked-at : (x : State) (store : List ℕ) (call : Call)
+    → readFillOf 0 x store call ≡ length (accept x store call .state .head)
+head-looked-at x store call = refl
+
+-- A high mark is the greatest fill so far, as the caches are looked at.
+pub tail-mark-rises : (x : State) (store : List ℕ) (call : Call)
+    → accept x store call .state .tailMark ≡ max (x .tailMark) (joinedFillOf 0 x call)
+tail-mark-rises x store call = refl
+
+pub head-mark-rises : (x : State) (store : List ℕ) (call : Call)
+    → accept x store call .state .headMark ≡ max (x .headMark) (readFillOf 0 x store call)
+head-mark-rises x store call = refl
 
 -- 7 comes only where the request would be Held and its queue has no byte in the tail, this slot's arrival counted;
 -- and there it does come.

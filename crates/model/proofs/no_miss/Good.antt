@@ -12,7 +12,7 @@ use lib.ListN.{length, length-append}
 use borrow.Author.Tests.{eqb-true, lt-leb, le-ltb}
 use Rattle.model.specs.Basics.{choose, when, All}
 use Rattle.model.specs.Sizes.{storeBytes, Sizes, Limits, accepts, span, lookahead, tailSize, headSize, full}
-use Rattle.model.specs.State.{keeps, Byte, State, fresh, ringOf}
+use Rattle.model.specs.State.{keeps, Byte, State, fresh, ringOf, SameButMarks}
 use Rattle.model.specs.Slot.{arrivalUnknown, arrivalFull, requestUnknown, nothingToTake, Call, afterDelivery}
 use Rattle.model.specs.Slot.{moves, queueToWrite, afterWrite, queueToRead, blockAt, bytesFor, headRead, afterRead}
 use Rattle.model.specs.Slot.{afterPhase, joined, asked, wrote, wroteStore, refilled, tailFull, headFull, refusal}
@@ -21,6 +21,7 @@ use Rattle.model.proofs.basics.AllOf.{_also_}
 use Rattle.model.proofs.basics.Tests.{by-test, none-not-some}
 use Rattle.model.proofs.basics.FirstRefusal.{low-refusal, when-le}
 use Rattle.model.proofs.basics.Bytes.{length-for}
+use Rattle.model.proofs.meaning.Marks.{by-marks}
 use Rattle.model.proofs.meaning.Steps.{move-writes-fullest, no-move-no-write, move-reads-scan, no-move-no-read}
 use Rattle.model.proofs.one_slot.Rules.{Rules, Keeps, keeps-fresh}
 use Rattle.model.proofs.one_slot.Accepted.{Judged, earlyRefusals, judged-facts}
@@ -37,6 +38,15 @@ pub record Good (limits : Limits) (x : State) : Type 0 where
 
 pub good-fresh : (limits : Limits) (s : Sizes) → accepts limits s ≡ true → Good limits (fresh (full limits) s)
 good-fresh limits s e = record { kept = keeps-fresh (full limits) s e; invariant = invariant-fresh (full limits) s }
+
+-- Other marks within the rules leave a state good.
+pub good-marks : (limits : Limits) (x y : State) → SameButMarks x y → Keeps (full limits) y → Good limits x
+    → Good limits y
+good-marks limits x y s v g = record {
+  kept = v;
+  invariant =
+      by-marks (λ z. Invariant (z .phase) (z .phase) (z .phase) z) x y s (λ m n. search (g .invariant));
+}
 
 -- A slot without the two moves changes nothing of the invariant in step 4, and step 5 none of it.
 wrote-none : (i j k : ℕ) (y : State) (o : Option ℕ) → o ≡ none → Invariant i j k y → Invariant i j k (afterWrite o y)

@@ -1,0 +1,66 @@
+-- Rows that do not hold. Each says one thing otherwise than the slot or the size that it names, so that `holds` and its
+-- tests must look at all that a row of the table of examples says.
+use mathlib.Core.List.{List, [], _∷_}
+use lib.ListN.{replicate}
+use Rattle.model.specs.Sizes.{sizes, paper}
+use Rattle.model.specs.State.{byte, empty, owed, State, fresh}
+use Rattle.model.specs.Calls.{arrival, request, both, idle}
+use Rattle.model.specs.Examples.{Expected, _⇒_, taken, writes, reads, takenHeld, refused, misses, _delivering_}
+use Rattle.model.specs.Examples.{Example, sizesTaken, sizesRefused, sizesAre, blockIs, noBlock, slots}
+use Rattle.model.specs.Examples.{made_phase_tail_head_cells_blocks_}
+
+-- Slots from a fresh state with b 1, so that L is 1 and each slot may move, and with b 2.
+abbrev withB1 : List Expected → Example
+withB1 expected = slots paper (fresh paper (sizes 1 1 1)) expected
+
+abbrev withB2 : List Expected → Example
+withB2 expected = slots paper (fresh paper (sizes 1 2 1)) expected
+
+-- A block of queue 0 in the store, the head empty, and an Owed cell about to leave.
+abbrev uncovered : State
+uncovered = made (sizes 2 2 1) phase 0 tail [] head [] cells (owed 0 ∷ replicate 2 empty) blocks (1 ∷ 0 ∷ [])
+
+abbrev pub falseExamples : List Example
+falseExamples =
+    -- Another L; sizes that are refused; sizes that are taken; another number.
+    sizesTaken 63 33 1 2_016 ∷
+    sizesTaken 64 33 1 2_049 ∷
+    sizesRefused 63 33 1 1 ∷
+    sizesRefused 64 33 1 2 ∷
+    -- Another L, another tail, another head.
+    sizesAre 4 3 8 11 17 ∷
+    sizesAre 4 3 9 10 17 ∷
+    sizesAre 4 3 9 11 16 ∷
+    -- Another block; one over 128; another number; a block where none is said to be.
+    blockIs 10 9 124 ∷
+    blockIs 52 1 130 ∷
+    noBlock 52 1 12 ∷
+    noBlock 51 1 0 ∷
+    -- Taken for refused, refused for taken, another number.
+    withB2 (arrival 0 65 ⇒ refused 5 ∷ []) ∷
+    withB2 (request 0 ⇒ taken ∷ []) ∷
+    withB2 (request 0 ⇒ refused 6 ∷ []) ∷
+    -- A write that is not named, one of another queue, one that was not. The first is also in the second slot, which
+    -- gets the state that the first one left.
+    withB2 (arrival 0 65 ⇒ taken ∷ arrival 0 66 ⇒ taken ∷ []) ∷
+    withB2 (arrival 0 65 ⇒ taken ∷ arrival 0 66 ⇒ writes 1 ∷ []) ∷
+    withB2 (arrival 0 65 ⇒ writes 0 ∷ []) ∷
+    -- The same of a read.
+    withB1 (arrival 0 65 ⇒ writes 0 ∷ request 0 ⇒ taken ∷ []) ∷
+    withB1 (arrival 0 65 ⇒ writes 0 ∷ request 0 ⇒ reads 1 ∷ []) ∷
+    withB2 (arrival 0 65 ⇒ reads 0 ∷ []) ∷
+    -- The same of a delivery, of which the queue and the value may be another.
+    withB1 (both 0 65 0 ⇒ taken ∷ idle ⇒ taken ∷ []) ∷
+    withB1 (both 0 65 0 ⇒ taken ∷ idle ⇒ taken delivering byte 1 65 ∷ []) ∷
+    withB1 (both 0 65 0 ⇒ taken ∷ idle ⇒ taken delivering byte 0 66 ∷ []) ∷
+    withB1 (both 0 65 0 ⇒ taken delivering byte 0 65 ∷ []) ∷
+    -- A refused slot that delivers; one that writes and one that reads have no row.
+    withB1 (both 0 65 0 ⇒ taken ∷ request 0 ⇒ refused 7 delivering byte 0 65 ∷ []) ∷
+    -- Held of another queue, with another value; the youngest cell Owed, or empty.
+    withB1 (both 0 65 0 ⇒ takenHeld 1 65 ∷ []) ∷
+    withB1 (both 0 65 0 ⇒ takenHeld 0 66 ∷ []) ∷
+    withB2 (arrival 0 65 ⇒ taken ∷ arrival 0 66 ⇒ writes 0 ∷ request 0 ⇒ takenHeld 0 65 ∷ []) ∷
+    withB2 (arrival 0 65 ⇒ takenHeld 0 65 ∷ []) ∷
+    -- A miss of another queue, and one that is none.
+    slots paper uncovered (idle ⇒ misses 1 ∷ []) ∷
+    withB2 (idle ⇒ misses 0 ∷ []) ∷ []

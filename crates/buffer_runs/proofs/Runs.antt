@@ -50,6 +50,8 @@ pub idled : {s : code.State} {store : List ℕ} {n : ℕ} {r : Passed} {m : Arra
       passed = r .passed;
       number = r .number;
       delivery = r .delivery;
+      written = r .written;
+      read = r .read;
     }) store′
 idled {s} {store} {r = r} {m = m} v = record {
   stretch = v .stretch;

@@ -1,2 +1,4 @@
--- What many slots in one call promise: a list of them, and idle slots by their count.
+-- What many slots in one call promise: a list of them, and idle slots by their count; demand 3 over calls of every
+-- kind.
 pub mod Says
+pub mod Demand

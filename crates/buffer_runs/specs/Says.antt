@@ -8,7 +8,7 @@ use Rattle.model.specs.Sizes.{paper}
 use Rattle.model.specs.State.{keeps, SameButMarks, MarksInRange}
 use Rattle.model.specs.Calls.{idles}
 use Rattle.model.specs.Lists.{run, lastState, lastStore, accepted}
-use Rattle.layout.specs.Calls.{deliveryIn}
+use Rattle.layout.specs.Calls.{chosenIn, deliveryIn}
 use Rattle.run_in_place.specs.Says.{wordOf}
 use Rattle.idle_in_place.specs.Says.{Stretched}
 use Rattle.run_checked.specs.Says.{runLength, callsRun}
@@ -29,10 +29,11 @@ pub record RunSays (s : code.State) (calls answers store : List ℕ) (r : code.S
   pub as-given : accepted (run paper (stateOf s) store (callsRun calls answers)) ≡ [] → stateOf r ≡ stateOf s
   pub kept : keeps paper (stateOf s) ≡ true → keeps paper (stateOf r) ≡ true
 
--- A stretch of at most n idle slots: how many passed, and what the last of them answered, all before it being quiet.
--- State and store are as they leave them, the marks again free only where a slot was accepted.
+-- A stretch of at most n idle slots: how many passed, all before the last being quiet, and what the last answered, or
+-- no slot at all. State and store are as they leave them, the marks again free only where a slot was accepted.
 pub record IdleSays (s : code.State) (store : List ℕ) (n : ℕ) (r : Idled) (store′ : List ℕ) : Type 0 where
-  pub stretch : Stretched (stateOf s) store n (r .passed) (r .number) (deliveryIn (r .delivery))
+  pub stretch : Stretched (stateOf s) store n (r .passed) (r .number) (deliveryIn (r .delivery)) (chosenIn (r .written))
+      (chosenIn (r .read))
   pub state-is : SameButMarks (lastState paper (stateOf s) store (idles (r .passed))) (stateOf (r .state))
   pub store-is : store′ ≡ lastStore paper (stateOf s) store (idles (r .passed))
   pub marks-are : keeps paper (stateOf s) ≡ true → MarksInRange (stateOf (r .state))

@@ -1,7 +1,9 @@
 // Many slots in one call, of any state and any store: a list of calls, or idle slots by the count. The state's arrays
 // are copied once, lent to crates/run_checked, which goes from slot to slot in place, and put back.
 ghost use Rattle.buffer_runs.specs.Says.{RunSays, IdleSays};
+ghost use Rattle.buffer_runs.specs.Demand.{MixedCallsMeet};
 use buffer::State;
+use layout::Chosen;
 use layout::Delivery;
 
 // A list of slots: as many calls as there are places for their answers.
@@ -34,16 +36,18 @@ pub fn run(mut state: State, calls: &[u32], answers: &mut [u64], store: &mut [u8
     state
 }
 
-// How far a stretch of idle slots went: the state, how many slots, and the last one's number and delivery.
+// How far a stretch of idle slots went: the state, how many slots, and what the last one answered.
 pub struct Idled {
     pub state: State,
     pub passed: usize,
     pub number: u8,
     pub delivery: Delivery,
+    pub written: Chosen,
+    pub read: Chosen,
 }
 
-// At most n idle slots: it stops with the first that is not quiet, so that no delivery and no refusal is lost. Quiet
-// slots pass at once, whatever their number.
+// At most n idle slots: it stops with the first that is not quiet, so that no delivery, no move and no refusal is lost.
+// Quiet slots pass at once, whatever their number. None at all answers 0, whatever the state.
 pub fn idle(state: State, n: usize, store: &mut [u8]) -> Idled
     ensures { λ r. ⌜ IdleSays state (now (store .entry)) n r (now (store .exit)) ⌝ }
 {
@@ -67,6 +71,8 @@ pub fn idle(state: State, n: usize, store: &mut [u8]) -> Idled
     let passed = stretch.passed;
     let number = stretch.number;
     let delivery = stretch.delivery;
+    let written = stretch.written;
+    let read = stretch.read;
     Idled {
         state: State {
             regs: left,
@@ -79,5 +85,12 @@ pub fn idle(state: State, n: usize, store: &mut [u8]) -> Idled
         passed: passed,
         number: number,
         delivery: delivery,
+        written: written,
+        read: read,
     }
 }
+
+// Demand 3 over slots, steps, runs and idle slots in any order, as a contract, so that it is proved with the code.
+pub fn demand_3_over_mixed_calls()
+    ensures { λ _. ⌜ MixedCallsMeet ⌝ }
+{}

@@ -9,11 +9,12 @@ use lib.Dec.{eqb}
 use lib.ListN.{length}
 use borrow.Author.Tests.{eqb-true, eqb-false}
 use Rattle.model.specs.Sizes.{paper, lookahead}
-use Rattle.model.specs.Idle.{leadingEmpties, moveDue}
+use Rattle.model.specs.Idle.{leadingEmpties, moveDue, quietFirst}
 use Rattle.model.proofs.basics.Tests.{by-test}
 use Rattle.model.proofs.one_slot.Rules.{Keeps, keeps-facts, keeps-holds}
 use Rattle.model.proofs.idle.QuietSlots.{PassedQuietly}
 use Rattle.model.proofs.idle.QuietCount.{counted-within}
+use Rattle.model.proofs.idle.Stretch.{quiet-first-is}
 use Rattle.layout.specs.Entries.{countsIn}
 use Rattle.layout.specs.declared.Regs.{Regs}
 use Rattle.layout.specs.Views.{Arrays, sizesIn, stateIn}
@@ -22,7 +23,7 @@ use Rattle.layout.proofs.Ranges.{in-limits}
 use Rattle.slot_in_place.specs.Says.{Ready}
 use Rattle.idle_quiet.proofs.Leading.{leading-fits}
 use Rattle.idle_quiet.proofs.Passing.{withPhase, withCells, passed-by-turn, tallies-turned, passed-by-shift}
-use Rattle.idle_quiet.proofs.Passing.{tallies-shifted}
+use Rattle.idle_quiet.proofs.Passing.{tallies-shifted, counted-by-state}
 use Rattle.idle_in_place.specs.declared.Stretch.{Stretch}
 use Rattle.idle_in_place.specs.Says.{cellsOf, StretchSays}
 
@@ -107,6 +108,14 @@ module _ {regs : Regs} {m : Arrays} {counts : ByQueue} {store : List ℕ} (r : R
     tallies = quiet-passed .counts-stay;
     store-long = r .store-long;
   }
+
+  -- They are those that the model counts.
+  pub quiet-counted : s .count ≡ quietFirst paper (stateIn regs m) store n
+  quiet-counted =
+      quiet-first-is paper (stateIn regs m) store n (s .count)
+      (counted-by-state regs m store counts kept (r .store-long) (r .tallies) n empties (s .count) (s .phase) due refl
+      refl (says .count-is) (says .phase-is))
+      (quiet-passed .slots-pass .steps-quiet)
 
   -- They are no more than there are.
   pub quiet-most : s .count ≤ n

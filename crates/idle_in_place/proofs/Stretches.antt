@@ -1,6 +1,6 @@
 -- A stretch of idle slots is quiet slots and perhaps one slot more, which answers as the model's slot on what the quiet
 -- ones leave.
-use mathlib.Core.Path.{_≡_, ap, sym, _∙_, subst}
+use mathlib.Core.Path.{_≡_, refl, ap, sym, _∙_, subst}
 use mathlib.Core.List.{List, [], _∷_, _++_}
 use mathlib.Core.Option.{none}
 use Prim.Native.Nat.{ℕ, _+_, _-_, _≤_}
@@ -11,38 +11,25 @@ use Rattle.model.specs.State.{State}
 use Rattle.model.specs.Slot.{Answer, slot}
 use Rattle.model.specs.Calls.{idle, idles}
 use Rattle.model.specs.Lists.{Step, stepOf, run, lastState, lastStore}
-use Rattle.model.specs.Idle.{QuietStep}
+use Rattle.model.specs.Idle.{QuietStep, quietFirst, lastAnswer}
 use Rattle.model.proofs.basics.Tests.{by-zero}
-use Rattle.model.proofs.one_slot.Lists.{last-append, last-store-append, run-append}
+use Rattle.model.proofs.one_slot.Lists.{run-append}
 use Rattle.model.proofs.idle.QuietSlots.{PassedQuietly, idles-parts}
+use Rattle.model.proofs.idle.Stretch.{last-is-slot, last-leaves}
 use Rattle.layout.specs.Counts.{ByQueue}
-use Rattle.layout.specs.declared.Regs.{Regs}
-use Rattle.layout.specs.Calls.{deliveryIn}
+use Rattle.layout.specs.Calls.{chosenIn, deliveryIn}
 use Rattle.layout.specs.Views.{Arrays, stateIn}
 use Rattle.slot_in_place.specs.declared.Advanced.{Advanced}
-use Rattle.slot_in_place.specs.Says.{Ready, AdvanceSays}
+use Rattle.slot_in_place.specs.Says.{Ready, answerIn, AdvanceSays}
 use Rattle.idle_in_place.specs.declared.Passed.{Passed}
-use Rattle.idle_in_place.specs.Says.{lastAnswer, PassSays}
+use Rattle.idle_in_place.specs.Says.{PassSays}
 
--- What n idle slots leave, that are i of them and then j.
-module _ (x : State) (store : List ℕ) (i j n : ℕ) (parts : n ≡ i + j) where
-  state-parts : lastState paper x store (idles n)
-      ≡ lastState paper (lastState paper x store (idles i)) (lastStore paper x store (idles i)) (idles j)
-  state-parts = ap (lastState paper x store) (idles-parts n i j parts) ∙ last-append paper x store (idles i) (idles j)
-
-  store-parts : lastStore paper x store (idles n)
-      ≡ lastStore paper (lastState paper x store (idles i)) (lastStore paper x store (idles i)) (idles j)
-  store-parts =
-      ap (lastStore paper x store) (idles-parts n i j parts) ∙ last-store-append paper x store (idles i) (idles j)
-
--- The last of some idle slots leaves what they leave.
-last-state : (x : State) (store : List ℕ) (n : ℕ) → 1 ≤ n
-    → lastState paper x store (idles n) ≡ lastAnswer x store n .state
-last-state x store n h = state-parts x store (n - 1) 1 n (omega (arith, h))
-
-last-store : (x : State) (store : List ℕ) (n : ℕ) → 1 ≤ n
-    → lastStore paper x store (idles n) ≡ lastAnswer x store n .store
-last-store x store n h = store-parts x store (n - 1) 1 n (omega (arith, h))
+-- An answer of 0 and nothing else.
+record Quietly (a : Answer) : Type 0 where
+  accepted : a .number ≡ 0
+  no-delivery : a .delivered ≡ none
+  no-write : a .written ≡ none
+  no-read : a .read ≡ none
 
 -- Where a property holds of a list, it holds of a first part and of what stands behind it.
 all-first : {A : Type 0} (P : A → Type 0) (ys zs : List A) → All P (ys ++ zs) → All P ys
@@ -58,10 +45,13 @@ module _ (x : State) (store : List ℕ) (n : ℕ) (quiet : All QuietStep (run pa
   abbrev first-steps : List Step
   first-steps = run paper x store (idles (n - 1))
 
+  abbrev last-slot : Answer
+  last-slot =
+      slot paper (lastState paper x store (idles (n - 1))) (lastStore paper x store (idles (n - 1))) idle
+
   abbrev last-step : Step
   last-step =
-      stepOf (lastState paper x store (idles (n - 1))) (lastStore paper x store (idles (n - 1))) idle
-      (lastAnswer x store n)
+      stepOf (lastState paper x store (idles (n - 1))) (lastStore paper x store (idles (n - 1))) idle last-slot
 
   in-parts : 1 ≤ n → All QuietStep (first-steps ++ last-step ∷ [])
   in-parts h =
@@ -77,75 +67,82 @@ module _ (x : State) (store : List ℕ) (n : ℕ) (quiet : All QuietStep (run pa
       subst (λ (k : ℕ). All QuietStep (run paper x store (idles k))) none-before quiet)
       (λ h. all-first QuietStep first-steps (last-step ∷ []) (in-parts h))
 
-  last-quiet : 1 ≤ n → QuietStep last-step
-  last-quiet h = all-behind QuietStep first-steps (last-step ∷ []) (in-parts h) .0
+  -- What the last answers, or none at all: 0 and nothing else.
+  last-quiet : Quietly (lastAnswer paper x store n)
+  last-quiet =
+      by-zero n
+      (λ e. subst (λ (k : ℕ). Quietly (lastAnswer paper x store k)) (sym e)
+      (record { accepted = refl; no-delivery = refl; no-write = refl; no-read = refl }))
+      (λ h. let q = all-behind QuietStep first-steps (last-step ∷ []) (in-parts h) .0 in
+      subst Quietly (sym (last-is-slot paper x store n h))
+      (record {
+        accepted = q .accepted;
+        no-delivery = q .no-delivery;
+        no-write = q .no-write;
+        no-read = q .no-read;
+      }))
 
 -- A stretch of quiet slots alone.
 pub pass-is-quiet : {x : State} {store : List ℕ} {n : ℕ} {r : Passed} {m : Arrays} {counts : ByQueue}
-    → r .passed ≡ n → r .number ≡ 0 → deliveryIn (r .delivery) ≡ none
+    → r .passed ≡ n → r .passed ≡ quietFirst paper x store n
+    → r .number ≡ 0 → deliveryIn (r .delivery) ≡ none → chosenIn (r .written) ≡ none → chosenIn (r .read) ≡ none
     → PassedQuietly paper x store (r .passed) (stateIn (r .regs) m)
     → Ready (r .regs) m counts store
     → PassSays x store n r m counts store
-pass-is-quiet {x} {store} {n} {r} all number silent p ready = record {
+pass-is-quiet {x} {store} {n} {r} all counted number silent unwritten unread p ready = record {
   stretch = record {
-    passed-most = omega (arith, all);
-    passed-some = λ h. omega (arith, h, all);
+    passed-is = omega (arith, all, counted);
     quiet-first = first-quiet x store (r .passed) (p .steps-quiet);
-    last-number = λ h. number ∙ sym (last h .accepted);
-    last-delivered = λ h. silent ∙ sym (last h .no-delivery);
+    last-number = number ∙ sym (last .accepted);
+    last-delivered = silent ∙ sym (last .no-delivery);
+    last-written = unwritten ∙ sym (last .no-write);
+    last-read = unread ∙ sym (last .no-read);
   };
   state-is = sym (p .state-is);
   store-is = sym (p .store-is);
   ready = ready;
 }
   where
-    last : 1 ≤ n
-        → QuietStep (stepOf (lastState paper x store (idles (r .passed - 1)))
-        (lastStore paper x store (idles (r .passed - 1))) idle (lastAnswer x store (r .passed)))
-    last h = last-quiet x store (r .passed) (p .steps-quiet) (omega (arith, h, all))
+    last : Quietly (lastAnswer paper x store (r .passed))
+    last = last-quiet x store (r .passed) (p .steps-quiet)
 
--- Quiet slots and one more.
-module _ {x y : State} {store : List ℕ} {n k : ℕ} {r : Passed} {a : Advanced} {m : Arrays}
-    {counts : ByQueue} {store′ : List ℕ} (passed : r .passed ≡ k + 1) (more : k + 1 ≤ n)
-    (number : r .number ≡ a .number)
-    (delivery : r .delivery ≡ a .delivery) (regs : r .regs ≡ a .regs) (p : PassedQuietly paper x store k y)
+-- Quiet slots and one more, which answers as the slot on what the quiet ones leave.
+abbrev onceMore : ℕ → Advanced → Passed
+onceMore k a = record {
+  regs = a .regs;
+  passed = k + 1;
+  number = a .number;
+  delivery = a .delivery;
+  written = a .written;
+  read = a .read;
+}
+
+module _ {x y : State} {store : List ℕ} {n k : ℕ} {a : Advanced} {m : Arrays} {counts : ByQueue} {store′ : List ℕ}
+    (more : k + 1 ≤ n) (counted : k ≡ quietFirst paper x store n) (p : PassedQuietly paper x store k y)
     (says : AdvanceSays y store idle a m counts store′) where
-  before-last : r .passed - 1 ≡ k
-  before-last = omega (arith, passed)
+  before-last : k ≡ k + 1 - 1
+  before-last = omega arith
 
-  -- The one more answers as the slot on what the quiet ones leave.
-  last-is : slot paper y store idle ≡ lastAnswer x store (r .passed)
+  last-is : answerIn a m store′ ≡ lastAnswer paper x store (k + 1)
   last-is =
-      ap (λ (z : State). slot paper z store idle) (sym (p .state-is))
+      says .answer-is
+      ∙ ap (λ (z : State). slot paper z store idle) (sym (p .state-is))
       ∙ ap (λ (bytes : List ℕ). slot paper (lastState paper x store (idles k)) bytes idle) (sym (p .store-is))
       ∙ ap (λ (i : ℕ). slot paper (lastState paper x store (idles i)) (lastStore paper x store (idles i)) idle)
-      (sym before-last)
+      before-last
+      ∙ sym (last-is-slot paper x store (k + 1) (omega arith))
 
-  one-passed : 1 ≤ r .passed
-  one-passed = omega (arith, passed)
-
-  pub pass-once-more : PassSays x store n r m counts store′
+  pub pass-once-more : PassSays x store n (onceMore k a) m counts store′
   pass-once-more = record {
     stretch = record {
-      passed-most = omega (arith, passed, more);
-      passed-some = λ h. one-passed;
-      quiet-first =
-          subst (λ (i : ℕ). All QuietStep (run paper x store (idles i))) (sym before-last) (p .steps-quiet);
-      last-number = λ h.
-          number ∙ ap (λ (b : Answer). b .number) (says .answer-is) ∙ ap (λ (b : Answer). b .number) last-is;
-      last-delivered = λ h.
-          ap deliveryIn delivery
-          ∙ ap (λ (b : Answer). b .delivered) (says .answer-is)
-          ∙ ap (λ (b : Answer). b .delivered) last-is;
+      passed-is = omega (arith, more, counted);
+      quiet-first = subst (λ (i : ℕ). All QuietStep (run paper x store (idles i))) before-last (p .steps-quiet);
+      last-number = ap (λ (b : Answer). b .number) last-is;
+      last-delivered = ap (λ (b : Answer). b .delivered) last-is;
+      last-written = ap (λ (b : Answer). b .written) last-is;
+      last-read = ap (λ (b : Answer). b .read) last-is;
     };
-    state-is =
-        ap (λ (s : Regs). stateIn s m) regs
-        ∙ ap (λ (b : Answer). b .state) (says .answer-is)
-        ∙ ap (λ (b : Answer). b .state) last-is
-        ∙ sym (last-state x store (r .passed) one-passed);
-    store-is =
-        ap (λ (b : Answer). b .store) (says .answer-is)
-        ∙ ap (λ (b : Answer). b .store) last-is
-        ∙ sym (last-store x store (r .passed) one-passed);
-    ready = subst (λ (s : Regs). Ready s m counts store′) (sym regs) (says .ready);
+    state-is = ap (λ (b : Answer). b .state) last-is ∙ sym (last-leaves paper x store (k + 1) .0);
+    store-is = ap (λ (b : Answer). b .store) last-is ∙ sym (last-leaves paper x store (k + 1) .1);
+    ready = says .ready;
   }

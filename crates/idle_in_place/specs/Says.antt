@@ -2,18 +2,17 @@
 use mathlib.Core.Path.{_≡_}
 use mathlib.Core.List.{List}
 use mathlib.Core.Option.{Option}
-use Prim.Native.Nat.{ℕ, _+_, _-_, _%_, _≤_, _<_}
+use Prim.Native.Nat.{ℕ, _+_, _-_, _%_, _<_}
 use Rattle.model.specs.Basics.{All}
 use Rattle.model.specs.Sizes.{paper, lookahead}
 use Rattle.model.specs.State.{Byte, Cell, State}
-use Rattle.model.specs.Slot.{Answer, slot}
-use Rattle.model.specs.Calls.{idle, idles}
+use Rattle.model.specs.Calls.{idles}
 use Rattle.model.specs.Lists.{run, lastState, lastStore}
-use Rattle.model.specs.Idle.{QuietStep, leadingEmpties, moveDue, quietOf}
+use Rattle.model.specs.Idle.{QuietStep, leadingEmpties, moveDue, quietOf, stretchLength, lastAnswer}
 use Rattle.layout.specs.Counts.{ByQueue}
 use Rattle.layout.specs.Entries.{countsIn, cellsIn}
 use Rattle.layout.specs.declared.Regs.{Regs}
-use Rattle.layout.specs.Calls.{deliveryIn}
+use Rattle.layout.specs.Calls.{chosenIn, deliveryIn}
 use Rattle.layout.specs.Views.{Arrays, sizesIn, stateIn}
 use Rattle.slot_in_place.specs.Says.{Ready}
 use Rattle.idle_quiet.specs.Says.{ShiftedBy}
@@ -38,24 +37,26 @@ pub record StretchSays (regs : Regs) (cells tails heads : List ℕ) (n : ℕ) (r
       leadingEmpties (cellsOf regs cells) < lookahead (sizesIn regs)
       → ShiftedBy (lookahead (sizesIn regs)) (r .count) cells cells′
 
--- What the last of n idle slots answers.
-abbrev pub lastAnswer : State → List ℕ → ℕ → Answer
-lastAnswer x store n =
-    slot paper (lastState paper x store (idles (n - 1))) (lastStore paper x store (idles (n - 1))) idle
-
--- One stretch of at most n idle slots, as the model has them: all but the last are quiet, and the last answers what is
--- given back of it. How far a stretch goes is left free between one slot and all n.
-pub record Stretched (x : State) (store : List ℕ) (n passed number : ℕ) (delivered : Option Byte) : Type 0 where
-  pub passed-most : passed ≤ n
-  pub passed-some : 1 ≤ n → 1 ≤ passed
+-- One stretch of at most n idle slots, as the model has them: how many passed, all but the last being quiet, and what
+-- is given back of the last, or of none where n is 0.
+pub record Stretched (x : State) (store : List ℕ) (n passed number : ℕ) (delivered : Option Byte)
+    (written read : Option ℕ) : Type 0 where
+  pub passed-is : passed ≡ stretchLength paper x store n
   pub quiet-first : All QuietStep (run paper x store (idles (passed - 1)))
-  pub last-number : 1 ≤ n → number ≡ lastAnswer x store passed .number
-  pub last-delivered : 1 ≤ n → delivered ≡ lastAnswer x store passed .delivered
+  pub last-number : number ≡ lastAnswer paper x store passed .number
+  pub last-delivered : delivered ≡ lastAnswer paper x store passed .delivered
+  pub last-written : written ≡ lastAnswer paper x store passed .written
+  pub last-read : read ≡ lastAnswer paper x store passed .read
 
--- The same on lent arrays: state and store as those slots leave them, ready for the next one.
+-- The same of what is handed back on lent arrays.
+abbrev pub StretchPassed : State → List ℕ → ℕ → Passed → Type 0
+StretchPassed x store n r =
+    Stretched x store n (r .passed) (r .number) (deliveryIn (r .delivery)) (chosenIn (r .written)) (chosenIn (r .read))
+
+-- With state and store as those slots leave them, ready for the next one.
 pub record PassSays (x : State) (store : List ℕ) (n : ℕ) (r : Passed) (m′ : Arrays)
     (counts′ : ByQueue) (store′ : List ℕ) : Type 0 where
-  pub stretch : Stretched x store n (r .passed) (r .number) (deliveryIn (r .delivery))
+  pub stretch : StretchPassed x store n r
   pub state-is : stateIn (r .regs) m′ ≡ lastState paper x store (idles (r .passed))
   pub store-is : store′ ≡ lastStore paper x store (idles (r .passed))
   pub ready : Ready (r .regs) m′ counts′ store′

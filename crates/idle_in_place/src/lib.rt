@@ -15,6 +15,7 @@ ghost use Rattle.slot_in_place.specs.Says.{Ready};
 ghost use Rattle.idle_in_place.specs.Says.{StretchSays, PassSays};
 use layout::Arrival;
 use layout::CellArray;
+use layout::Chosen;
 use layout::CountArray;
 use layout::Delivery;
 use layout::HeadArray;
@@ -68,6 +69,8 @@ pub struct Passed {
     pub passed: usize,
     pub number: u8,
     pub delivery: Delivery,
+    pub written: Chosen,
+    pub read: Chosen,
 }
 
 // One stretch of at most n idle slots: the quiet ones at once, and then, if n is not used up, one slot more.
@@ -110,6 +113,8 @@ pub fn pass(
             passed: count,
             number: 0,
             delivery: Delivery::NoDelivery,
+            written: Chosen::Nothing,
+            read: Chosen::Nothing,
         };
     }
     let passed = count + 1;
@@ -129,10 +134,14 @@ pub fn pass(
     );
     let next = slot.regs;
     let delivery = slot.delivery;
+    let written = slot.written;
+    let read = slot.read;
     Passed {
         regs: next,
         passed: passed,
         number: slot.number,
         delivery: delivery,
+        written: written,
+        read: read,
     }
 }

@@ -45,19 +45,27 @@ module _ (regs : Regs) (m : Arrays) (store : List ℕ) (counts : ByQueue)
   abbrev x : State
   x = stateIn regs m
 
+  -- A move is due by the counts where it is due by the state itself.
+  due-by-state : due ≡ moveDue (sizesIn regs) (tailBytes x) (headBytes x) (x .cells)
+  due-by-state =
+      due-is
+      ∙ ap (λ (f : ℕ → ℕ). moveDue (sizesIn regs) f (countsIn (counts .heads)) (x .cells))
+      (fun-ext (tallies .tails-are .count-is))
+      ∙ ap (λ (f : ℕ → ℕ). moveDue (sizesIn regs) (tailBytes x) f (x .cells))
+      (fun-ext (tallies .heads-are .count-is))
+
   not-due : due ≡ false → NothingToMove x
-  not-due e = nothing-due x (sym same ∙ sym due-is ∙ e)
-    where
-      same : moveDue (sizesIn regs) (countsIn (counts .tails)) (countsIn (counts .heads)) (x .cells)
-          ≡ moveDue (sizesIn regs) (tailBytes x) (headBytes x) (x .cells)
-      same =
-          ap (λ (f : ℕ → ℕ). moveDue (sizesIn regs) f (countsIn (counts .heads)) (x .cells))
-          (fun-ext (tallies .tails-are .count-is))
-          ∙ ap (λ (f : ℕ → ℕ). moveDue (sizesIn regs) (tailBytes x) f (x .cells))
-          (fun-ext (tallies .heads-are .count-is))
+  not-due e = nothing-due x (sym due-by-state ∙ e)
 
   counted-is : quietOf (sizesIn regs) (regs .phase) (leadingEmpties (x .cells)) due n ≡ count
   counted-is = ap (λ (k : ℕ). quietOf (sizesIn regs) (regs .phase) k due n) (sym leading) ∙ sym count-is
+
+  pub counted-by-state : count
+      ≡ quietOf (sizesIn regs) (regs .phase) (leadingEmpties (x .cells))
+      (moveDue (sizesIn regs) (tailBytes x) (headBytes x) (x .cells)) n
+  counted-by-state =
+      sym counted-is
+      ∙ ap (λ (t : Bool). quietOf (sizesIn regs) (regs .phase) (leadingEmpties (x .cells)) t n) due-by-state
 
   -- Where all cells are empty, the phase turns.
   pub passed-by-turn : empties ≡ lookahead (sizesIn regs)

@@ -9,10 +9,9 @@ use Rattle.model.specs.State.{State, keeps}
 use Rattle.model.specs.Slot.{Call}
 use Rattle.model.specs.Calls.{idles}
 use Rattle.model.specs.Lists.{run, lastState, lastStore}
-use Rattle.layout.specs.Calls.{deliveryIn}
 use Rattle.run_words.specs.Words.{callOf}
 use Rattle.idle_in_place.specs.declared.Passed.{Passed}
-use Rattle.idle_in_place.specs.Says.{Stretched}
+use Rattle.idle_in_place.specs.Says.{StretchPassed}
 use Rattle.run_in_place.specs.Says.{wordOf}
 
 -- A run takes as many calls as there are places for their answers.
@@ -35,7 +34,7 @@ pub record RunCheckedSays (x : State) (calls answers store : List ℕ) (x′ : S
 -- One stretch of at most n idle slots: what its slots answer, state and store as they leave them, marks included.
 pub record IdleCheckedSays (x : State) (store : List ℕ) (n : ℕ) (r : Passed) (x′ : State)
     (store′ : List ℕ) : Type 0 where
-  pub stretch : Stretched x store n (r .passed) (r .number) (deliveryIn (r .delivery))
+  pub stretch : StretchPassed x store n r
   pub state-is : x′ ≡ lastState paper x store (idles (r .passed))
   pub store-is : store′ ≡ lastStore paper x store (idles (r .passed))
   pub kept : keeps paper x ≡ true → keeps paper x′ ≡ true

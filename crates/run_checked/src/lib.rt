@@ -78,7 +78,7 @@ pub fn run(
 }
 
 // One stretch of at most n idle slots, of any state and any store. Where the state breaks the rules or the store is too
-// short, it is one slot, and that is refused.
+// short, it is one slot, and that is refused; no slot at all is not judged.
 pub fn idle(
     tail: &mut TailArray,
     head: &mut HeadArray,
@@ -93,15 +93,26 @@ pub fn idle(
     ensures { λ r. ⌜ IdleCheckedSays (stateIn regs (found tail head cells firsts stored)) (now (store .entry)) n r
         (stateIn (r .regs) (left tail head cells firsts stored)) (now (store .exit)) ⌝ }
 {
+    if n == 0 {
+        return Passed {
+            regs: regs,
+            passed: 0,
+            number: 0,
+            delivery: Delivery::NoDelivery,
+            written: Chosen::Nothing,
+            read: Chosen::Nothing,
+        };
+    }
     let judged = slot_rules::judge_rules(tail, head, cells, firsts, stored, regs);
     let number = slot_checked::state_number(judged.kept, regs, store.len());
     if number != 0 {
-        let passed = minmax::smaller(n, 1);
         return Passed {
             regs: regs,
-            passed: passed,
+            passed: 1,
             number: number,
             delivery: Delivery::NoDelivery,
+            written: Chosen::Nothing,
+            read: Chosen::Nothing,
         };
     }
     let mut tails = judged.tails;

@@ -14,8 +14,10 @@ use Rattle.model.specs.State.{Byte, byte, State}
 use Rattle.model.specs.Slot.{Call, Answer, slot}
 use Rattle.model.specs.Calls.{idle, idles}
 use Rattle.model.specs.Lists.{Step, stepOf, run, lastState, lastStore, accepted}
+use Rattle.model.specs.Idle.{lastAnswer}
 use Rattle.model.proofs.one_slot.Lists.{run-length}
 use Rattle.model.proofs.idle.QuietSlots.{idles-parts}
+use Rattle.model.proofs.idle.Stretch.{last-is-slot}
 use Rattle.layout.specs.Counts.{ByQueue}
 use Rattle.layout.specs.declared.Regs.{Regs}
 use Rattle.layout.specs.Calls.{deliveryIn}
@@ -23,7 +25,7 @@ use Rattle.layout.specs.Views.{Arrays, stateIn}
 use Rattle.slot_in_place.specs.declared.Advanced.{Advanced}
 use Rattle.slot_in_place.specs.Says.{Ready, AdvanceSays}
 use Rattle.idle_in_place.specs.declared.Passed.{Passed}
-use Rattle.idle_in_place.specs.Says.{lastAnswer, PassSays}
+use Rattle.idle_in_place.specs.Says.{PassSays}
 use Rattle.script_lines.specs.Lines.{Line, delivery, refusal, lineText, text}
 use Rattle.script_lines.specs.Says.{PutSays}
 use Rattle.script_lines.proofs.Placed.{put-nothing}
@@ -187,10 +189,22 @@ module _ {x : State} {store : List ℕ} {n : ℕ} {r : Passed} {m : Arrays} {cou
     bytes = lastStore paper x store (idles before)
 
     abbrev last : Step
-    last = stepOf y bytes idle (lastAnswer x store (r .passed))
+    last = stepOf y bytes idle (slot paper y bytes idle)
 
     some-passed : 1 ≤ r .passed
-    some-passed = says .stretch .passed-some some-left
+    some-passed = omega (arith, says .stretch .passed-is, some-left)
+
+    most-passed : r .passed ≤ n
+    most-passed = omega (arith, says .stretch .passed-is)
+
+    last-is : lastAnswer paper x store (r .passed) ≡ slot paper y bytes idle
+    last-is = last-is-slot paper x store (r .passed) some-passed
+
+    number-last : r .number ≡ last .number
+    number-last = says .stretch .last-number ∙ ap (λ (a : Answer). a .number) last-is
+
+    delivered-last : deliveryIn (r .delivery) ≡ last .delivered
+    delivered-last = says .stretch .last-delivered ∙ ap (λ (a : Answer). a .delivered) last-is
 
     parts : idles (r .passed) ≡ idles before ++ idle ∷ []
     parts = idles-parts (r .passed) before 1 (omega (arith, some-passed))
@@ -210,13 +224,13 @@ module _ {x : State} {store : List ℕ} {n : ℕ} {r : Passed} {m : Arrays} {cou
         (quiet-prints-nothing t (run paper x store (idles before)) (says .stretch .quiet-first))
         ∙ ap (λ (k : ℕ). slotLines (t + k) (last ∷ [])) all-before
         ∙ append-nil (answerLines (t + before) (last .number) (last .delivered))
-        ∙ ap (λ (k : ℕ). answerLines (t + before) k (last .delivered)) (sym (says .stretch .last-number some-left))
-        ∙ ap (answerLines (t + before) (r .number)) (sym (says .stretch .last-delivered some-left))
+        ∙ ap (λ (k : ℕ). answerLines (t + before) k (last .delivered)) (sym number-last)
+        ∙ ap (answerLines (t + before) (r .number)) (sym delivered-last)
 
     stretch-count : (t : ℕ) → countOn (t + before) (r .number)
         ≡ t + length (accepted (run paper x store (idles (r .passed))))
     stretch-count t =
-        ap (countOn (t + before)) (says .stretch .last-number some-left)
+        ap (countOn (t + before)) number-last
         ∙ counts-one (t + before) last
         ∙ omega (
           arith,
@@ -228,7 +242,7 @@ module _ {x : State} {store : List ℕ} {n : ℕ} {r : Passed} {m : Arrays} {cou
     pub before-fits : {t place : ℕ} {output : List ℕ} → Room x store (idles n) t place output
         → t + before + 1 < countLimit
     before-fits room =
-        omega (arith, room .slots-fit, some-passed, says .stretch .passed-most, length-replicate n idle)
+        omega (arith, room .slots-fit, some-passed, most-passed, length-replicate n idle)
 
     pub stretch-answer-fits : {t place : ℕ} {output : List ℕ} → Room x store (idles n) t place output
         → AnswerFits (t + before) (r .number) (deliveryIn (r .delivery)) place output
@@ -241,7 +255,7 @@ module _ {x : State} {store : List ℕ} {n : ℕ} {r : Passed} {m : Arrays} {cou
         passed-room =
             room-first x store (idles (r .passed)) (idles (n - r .passed)) t place output
             (subst (λ (cs : List Call). Room x store cs t place output)
-            (idles-left n (r .passed) (says .stretch .passed-most)) room)
+            (idles-left n (r .passed) most-passed) room)
 
     pub stretch-runs : (t : ℕ) {place : ℕ} {output output′ : List ℕ} {a : AnswerPut} {p : Progress}
         → AnswerSays (t + before) (r .number) (deliveryIn (r .delivery)) place output a output′

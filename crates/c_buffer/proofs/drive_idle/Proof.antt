@@ -43,7 +43,7 @@ sub-left c = search needs
 loop-less : tie.Need-loop-less Inv-loop μ-loop
 loop-less c =
     let called = c .before .before .before .before .before .before in
-    omega (arith, called .idle .ensures .stretch .passed-some (omega (arith, called .before .before .loop-test .taken)))
+    omega (arith, called .idle .ensures .stretch .passed-is, called .before .before .loop-test .taken)
 
 loop-again : tie.Need-loop-again Inv-loop μ-loop
 loop-again c = search needs

@@ -1,9 +1,9 @@
 -- `pass` meets its contract: the quiet slots are the model's, and the one more is the model's slot on what they leave.
-use mathlib.Core.Path.{refl}
+use mathlib.Core.Path.{_≡_, refl}
 use native.Mathlib.Omega.{arith}
 use borrow.Author.Needs.{needs}
 use Rattle.slot_in_place.proofs.Standing as standing
-use Rattle.idle_in_place.proofs.Passing.{quiet-passed, quiet-ready, quiet-most}
+use Rattle.idle_in_place.proofs.Passing.{quiet-passed, quiet-ready, quiet-counted, quiet-most}
 use Rattle.idle_in_place.proofs.Stretches.{pass-is-quiet, pass-once-more}
 use Rattle.idle_in_place.proofs.pass.Statement.{statement}
 use Rattle.idle_in_place.proofs.pass.Tie as tie
@@ -32,7 +32,9 @@ returns c =
     let quiet = c .before in
     let s = start quiet in
     let says = quiet .pass-quiet .ensures in
-    pass-is-quiet (c .if1 .taken) refl refl (quiet-passed (s .pre) says .slots-pass) (quiet-ready (s .pre) says)
+    let all : quiet .pass-quiet .result .count ≡ s .args .n = omega (arith, c .if1 .taken) in
+    pass-is-quiet all (quiet-counted (s .pre) says) refl refl refl refl (quiet-passed (s .pre) says .slots-pass)
+    (quiet-ready (s .pre) says)
 
 add-passed : tie.Need-add-passed
 add-passed c =
@@ -55,8 +57,8 @@ returns-2 c =
     let quiet = more .before in
     let ready = start quiet .pre in
     let says = quiet .pass-quiet .ensures in
-    pass-once-more refl (omega (arith, quiet-most ready says, more .if1 .left)) refl refl refl
-    (quiet-passed ready says .slots-pass) (advanced .advance .ensures .0)
+    pass-once-more {a = advanced .advance .result} (omega (arith, quiet-most ready says, more .if1 .left))
+    (quiet-counted ready says) (quiet-passed ready says .slots-pass) (advanced .advance .ensures .0)
 
 pub pass-spec : {M : Type 1} → statement M
 pass-spec = tie.close (tie.spec pass-quiet-requires returns add-passed advance-requires same-length returns-2)

@@ -42,7 +42,7 @@ pass-requires c κs = turn c .before .loop .inv .ready
 sub-before-last : tie.Need-sub-before-last Inv-loop μ-loop
 sub-before-last c =
     let stretch = c .before .before .before in
-    omega (arith, stretch .pass .ensures .stretch .passed-some (some-left (turn (stretch .before))))
+    omega (arith, stretch .pass .ensures .stretch .passed-is, some-left (turn (stretch .before)))
 
 add-before-last : tie.Need-add-before-last Inv-loop μ-loop
 add-before-last c =
@@ -57,12 +57,12 @@ put-answer-requires c κs =
     stretch-answer-fits (stretch .pass .ensures) (some-left here) (here .before .loop .inv .room)
 
 sub-left : tie.Need-sub-left Inv-loop μ-loop
-sub-left c = omega (arith, passed c .pass .ensures .stretch .passed-most)
+sub-left c = omega (arith, passed c .pass .ensures .stretch .passed-is)
 
 loop-less : tie.Need-loop-less Inv-loop μ-loop
 loop-less c =
     let stretch = passed c .pass .ensures .stretch in
-    omega (arith, stretch .passed-most, stretch .passed-some (some-left (turn (passed c .before))))
+    omega (arith, stretch .passed-is, some-left (turn (passed c .before)))
 
 loop-again : tie.Need-loop-again Inv-loop μ-loop
 loop-again c =
@@ -70,7 +70,8 @@ loop-again c =
     let here = turn (stretch .before) in
     let loop = here .before .loop in
     let says = stretch .pass .ensures in
-    let parts = idles-left (loop .left) (stretch .pass .result .passed) (says .stretch .passed-most) in
+    let parts = idles-left (loop .left) (stretch .pass .result .passed)
+    (omega (arith, says .stretch .passed-is)) in
     let printed = c .before .before in
     going-on (loop .inv) parts
     (stretch-runs says (some-left here) (loop .reached .slots) (printed .put-answer .ensures) refl refl refl)

@@ -1,5 +1,7 @@
 // Scripts for C and Rust callers: for tests and benchmarks from outside. What it hands on is compared there with the
 // second program.
+ghost use mathlib.Core.Path.{_≡_};
+ghost use Rattle.script_text.specs.Run.{outputBound};
 use script_commands::Command;
 use script_runner::Ran;
 use scripts::Reading;
@@ -145,7 +147,16 @@ pub extern "C" fn script_write(given: &[u64], output: &mut [u8], length: &mut [u
     written.number
 }
 
-// A script run on a store: how many bytes it printed, or 0 where the output is too short for what it may print.
+// How much output `script_run` asks for a script of so many bytes, whatever they are.
+#[no_mangle]
+pub extern "C" fn script_output_asked(script_bytes: usize) -> usize
+    ensures { λ r. ⌜ r ≡ outputBound «script_bytes» ⌝ }
+{
+    script_runner::output_asked(script_bytes)
+}
+
+// A script run on a store: how many bytes it printed. No script prints nothing, so that 0 says that the output is
+// shorter than `script_output_asked` of the script's length; store and output are then as they came.
 #[no_mangle]
 pub extern "C" fn script_run(script: &[u8], store: &mut [u8], output: &mut [u8]) -> usize {
     let ran = script_runner::run_script(script, store, output);

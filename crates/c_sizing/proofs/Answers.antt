@@ -31,16 +31,16 @@ chosen-memories : (t : Bool) (m : Memory) → orNone (choose t (some m) none) �
 chosen-memories true m = refl
 chosen-memories false m = refl
 
-pub block-is : (rate grade : ℕ) (r answer : Sizing) → SizingSays rate grade r → r ≡ answer
+pub block-is : {rate grade : ℕ} {r answer : Sizing} → SizingSays rate grade r → r ≡ answer
     → orZero (blockIn answer) ≡ blockOrNone rate grade
-block-is rate grade r answer says is =
+block-is {rate} {grade} {r} {answer} says is =
     sym (ap (λ (x : Sizing). orZero (blockIn x)) is)
     ∙ ap orZero (says .block-is)
     ∙ chosen-block (eqb (sizingNumber rate grade) 0) (blockFor rate grade)
 
-pub memories-are : (q b k : ℕ) (r answer : Derived) → DerivedSays q b k r → r ≡ answer
+pub memories-are : {q b k : ℕ} {r answer : Derived} → DerivedSays q b k r → r ≡ answer
     → orNone (memoryIn answer) ≡ memoriesOrNone q b k
-memories-are q b k r answer says is =
+memories-are {q} {b} {k} {r} {answer} says is =
     sym (ap (λ (x : Derived). orNone (memoryIn x)) is)
     ∙ ap orNone (says .memory-is)
     ∙ chosen-memories (accepts paperLimits (sizes q b k)) (memoryOf (sizes q b k))

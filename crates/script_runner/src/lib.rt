@@ -222,19 +222,30 @@ fn print_script(script: &[u8], store: &mut [u8], output: &mut [u8]) -> usize
     run_good(script, store, output)
 }
 
-// What running a script answers: how many bytes it printed, or that the output is too short for what it may print.
+// How much output `run_script` asks for a script of so many bytes: 10 bytes for each, up to 65,536 of them, and 11
+// more. It goes by the length alone, whatever the script holds, and no script prints more (`text-fits`).
+pub fn output_asked(script_bytes: usize) -> usize
+    ensures { λ r. ⌜ r ≡ outputBound «script_bytes» ⌝ }
+{
+    let bytes = minmax::smaller(script_bytes, MOST_BYTES);
+    10 * bytes + 11
+}
+
+// What running a script answers: how many bytes it printed, or that the output is shorter than `output_asked`.
 pub enum Ran {
     Printed(usize),
     TooShort,
 }
 
-// Any bytes as a script, on any store, with any output: nothing is touched where the output may be too short.
+// Any bytes as a script, on any store, with any output. Nothing is touched where the output is shorter than
+// `output_asked` of the script's length, also where what the script prints would have fitted: that is not known before
+// its slots have run and the store has changed.
 pub fn run_script(script: &[u8], store: &mut [u8], output: &mut [u8]) -> Ran
     ensures { λ r. ⌜ ScriptSays (now (script .entry)) (now (store .entry)) (now (output .entry)) r
         (now (store .exit)) (now (output .exit)) ⌝ }
 {
-    let bytes = minmax::smaller(script.len(), MOST_BYTES);
-    if output.len() < 10 * bytes + 11 {
+    let asked = output_asked(script.len());
+    if output.len() < asked {
         return Ran::TooShort;
     }
     let printed = print_script(script, store, output);

@@ -1,2 +1,3 @@
 -- The program's proofs.
+pub mod Texts
 pub mod Within

@@ -1,6 +1,6 @@
 -- A script's text stands at the start of an output that is long enough, and is all that was printed.
-use mathlib.Core.Path.{_≡_, ap, sym, _∙_}
-use mathlib.Core.Bool.{Bool, false}
+use mathlib.Core.Path.{_≡_, refl, ap, sym, _∙_}
+use mathlib.Core.Bool.{Bool, true, false}
 use mathlib.Core.List.{List, _++_}
 use mathlib.Core.Option.{some, none}
 use Prim.Native.Nat.{ℕ, _≤_}
@@ -9,14 +9,15 @@ use lib.ListN.{length, take, drop, replicate, length-append, length-take}
 use lib.Seq.{take-append-seam}
 use borrow.Author.Tests.{le-ltb}
 use Rattle.model.specs.Basics.{choose}
-use Rattle.model.proofs.basics.Tests.{none-not-some, some-inj}
+use Rattle.model.proofs.basics.Tests.{none-not-some, some-inj, true-not-false}
 use Rattle.io.specs.Counts.{Counts}
 use Rattle.script_lines.specs.Lines.{text}
 use Rattle.script_text.specs.Run.{scriptLines, storeLent, programText, outputBound}
-use Rattle.script_text.proofs.Program.{output-enough}
 use Rattle.script_runner.specs.declared.Ran.{Ran}
 use Rattle.script_runner.specs.declared.Ran.the-variants.{Printed, TooShort}
 use Rattle.script_runner.specs.Says.{printedIn, short, ScriptSays}
+use Rattle.slots.specs.declared.Answer.{Answer}
+use Rattle.slots.specs.Says.{AnswerSays}
 
 pub counts : (n : ℕ) (xs : List ℕ) → n ≤ length xs → Counts n xs
 counts n xs within = (within, omega (arith, length-take n xs))
@@ -63,6 +64,11 @@ pub on-its-store : (script : List ℕ) {store bytes : List ℕ} → store ≡ re
 unfolding programText
 on-its-store script zeros is = is ∙ ap (λ (lent : List ℕ). text (scriptLines script lent)) zeros
 
--- An output of 655,371 bytes or more has room for what any input prints.
-pub room-for-any : (n bytes lent : ℕ) → bytes ≡ lent → 655_371 ≤ bytes → outputBound n ≤ lent
-room-for-any n bytes lent e h = omega (arith, output-enough n, e, h)
+-- Where a read failed, no text is promised.
+pub none-printed : {input output : List ℕ} {read : ℕ} → Counts read input
+    → AnswerSays input (record { read = read; printed = 0; failed = true }) output
+none-printed {input} {output} {read} within = record {
+  read-within = within;
+  printed-within = counts 0 output (omega arith);
+  text-is = λ (e : true ≡ false). absurd (true-not-false true refl e);
+}

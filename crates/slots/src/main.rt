@@ -5,6 +5,7 @@ ghost use Prim.Native.Nat.{_≤_, _<_};
 ghost use lib.ListN.{length, take};
 ghost use Rattle.io.specs.Counts.{Counts};
 ghost use Rattle.script_text.specs.Run.{mostBytes, programText, outputBound};
+ghost use Rattle.slots.specs.Says.{mostOutput, IsProgramText, AnswerSays};
 use script_runner::Ran;
 
 // One byte more than a script may have: a longer input need not be read on (`program-reads-enough`).
@@ -63,25 +64,55 @@ fn print_script(script: &[u8], output: &mut [u8]) -> usize
     }
 }
 
-// Writes an input's text. No contract can say what a call of C's writes: so it is said, and proved in `main`, of what
-// is handed over to be written. The input is there for that alone.
-fn write_text(input: &[u8], text: &[u8]) -> bool
-    requires { ⌜ now text ≡ programText (now input) ⌝ }
+// What came of the input: how many bytes it has, how many its text has, and whether a read failed.
+struct Answer {
+    read: usize,
+    printed: usize,
+    failed: bool,
+}
+
+// Reads the input and puts its text at the start of the output. Where a read failed, nothing is run: what was read is
+// no whole input, and nothing is printed.
+fn answer_input(input: &mut [u8], output: &mut [u8]) -> Answer
+    requires { ⌜ mostBytes < length (now input) ⌝ }
+    requires { ⌜ mostOutput ≤ length (now output) ⌝ }
+    ensures { λ r. ⌜ AnswerSays (now (input .exit)) r (now (output .exit)) ⌝ }
+{
+    let found = read_input(input);
+    let read = found.length;
+    if found.failed {
+        return Answer {
+            read: read,
+            printed: 0,
+            failed: true,
+        };
+    }
+    let printed = print_script(&input[..read], output);
+    Answer {
+        read: read,
+        printed: printed,
+        failed: false,
+    }
+}
+
+// Writes a text of the program's. No contract can say what a call of C's writes: so it is said, and proved in `main`,
+// of what is handed over to be written, which is all that this function has.
+fn write_text(text: &[u8]) -> bool
+    requires { ⌜ IsProgramText (now text) ⌝ }
 {
     io::write_all(libc::STDOUT_FILENO, text)
 }
 
 fn main() {
-    let mut script = [0u8; INPUT];
-    let input = read_input(&mut script);
-    if input.failed {
+    let mut input = [0u8; INPUT];
+    let mut output = [0u8; OUTPUT];
+    let answer = answer_input(&mut input, &mut output);
+    if answer.failed {
         os::fail(b"slots: standard input");
         return;
     }
-    let length = input.length;
-    let mut output = [0u8; OUTPUT];
-    let printed = print_script(&script[..length], &mut output);
-    if write_text(&script[..length], &output[..printed]) {
+    let printed = answer.printed;
+    if write_text(&output[..printed]) {
         return;
     }
     os::fail(b"slots: standard output");

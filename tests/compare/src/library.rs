@@ -42,7 +42,13 @@ pub fn write(command: Numbers, output: &mut [u8]) -> Result<usize, u8> {
     }
 }
 
-/// Runs a script on a store; how many bytes it printed, or none where the output is too short for what it may print.
+/// How many bytes of output `run` asks for a script of so many bytes.
+pub fn output_asked(script_bytes: usize) -> usize {
+    // Safe: numbers alone.
+    unsafe { raw::script_output_asked(script_bytes) }
+}
+
+/// Runs a script on a store; how many bytes it printed, or none where the output is shorter than `output_asked`.
 pub fn run(script: &[u8], store: &mut [u8], output: &mut [u8]) -> Option<usize> {
     let printed = unsafe {
         raw::script_run(
@@ -75,6 +81,7 @@ mod raw {
             length: *mut u64,
             length_len: usize,
         ) -> u8;
+        pub fn script_output_asked(script_bytes: usize) -> usize;
         pub fn script_run(
             script: *const u8,
             script_len: usize,

@@ -1,14 +1,18 @@
 //! Compares the proved program with the second one on scripts from a seeded generator.
 //!
 //! compare [SEED [COUNT [PROGRAM]]]
+//! compare program PROGRAM
 //! compare speed
 //!
-//! Each script is judged, read command by command, written back and run by both. PROGRAM is the program `slots`: every
-//! hundredth script, and those at the edges of the format, also go through it. Prints how often each line and each
-//! refusal occurred; one that never occurred is a failure. The last line is 'N passed, M failed'.
+//! Each script is judged, read command by command, written back and run by both, in just as much output as is asked for
+//! it and, of the proved runner alone, in one byte less. PROGRAM is the program `slots`: every hundredth script, and
+//! those at the edges of the format, also go through it. Prints how often each line and each refusal occurred; one that
+//! never occurred is a failure. `compare program` tests the program alone, on inputs that come in parts and on inputs
+//! and outputs that fail. The last line is 'N passed, M failed'.
 
 mod commands;
 mod library;
+mod program;
 mod scripts;
 mod seen;
 mod speed;
@@ -25,6 +29,11 @@ fn main() -> ExitCode {
     if arguments.first().is_some_and(|word| word == "speed") {
         speed::measure();
         return ExitCode::SUCCESS;
+    }
+    if let [word, program] = arguments.as_slice() {
+        if word == "program" {
+            return test_program(program);
+        }
     }
     let number = |index: usize, usual: u64| match arguments.get(index) {
         Some(word) => word.parse().expect("SEED and COUNT are whole numbers"),
@@ -64,9 +73,33 @@ fn main() -> ExitCode {
 fn compare(script: &[u8], program: Option<&str>, seen: &mut Seen) -> Result<(), String> {
     commands::compare(script)?;
     let text = texts::compare(script)?;
+    texts::too_short(script)?;
     seen.add(&text);
     match program {
-        Some(program) => texts::compare_program(program, script, &text),
+        Some(path) => {
+            program::from_pipe(path, script, &text)?;
+            program::in_chunks(path, script, script.len() / 5 + 1, &text)
+        }
         None => Ok(()),
+    }
+}
+
+fn test_program(path: &str) -> ExitCode {
+    let tests = program::tests(path);
+    let mut failed = 0;
+    for (name, result) in &tests {
+        match result {
+            Ok(()) => println!("ok {name}"),
+            Err(what) => {
+                println!("FAILED {name}: {what}");
+                failed += 1;
+            }
+        }
+    }
+    println!("{} passed, {failed} failed", tests.len() - failed);
+    if failed == 0 {
+        ExitCode::SUCCESS
+    } else {
+        ExitCode::FAILURE
     }
 }

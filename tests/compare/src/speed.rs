@@ -7,7 +7,7 @@ use second::random::Random;
 
 use crate::library;
 use crate::scripts;
-use crate::texts::{OUTPUT_LENGTH, STORE_LENGTH};
+use crate::texts::STORE_LENGTH;
 
 /// Rounds of each, by turns; the best counts.
 const ROUNDS: usize = 9;
@@ -26,7 +26,7 @@ pub fn measure() {
 }
 
 fn row(name: &str, script: &[u8], beside: bool) {
-    let mut output = vec![0; OUTPUT_LENGTH];
+    let mut output = vec![0; library::output_asked(script.len())];
     let mut proved = Duration::MAX;
     let mut second = Duration::MAX;
     let mut printed = 0;
@@ -36,7 +36,7 @@ fn row(name: &str, script: &[u8], beside: bool) {
         printed = library::run(script, &mut store, &mut output).expect("the output is long enough");
         proved = proved.min(start.elapsed());
         if beside {
-            let mut text = Vec::with_capacity(OUTPUT_LENGTH);
+            let mut text = Vec::with_capacity(output.len());
             let start = Instant::now();
             run_script(script, &mut text).expect("a vector takes all that is written");
             second = second.min(start.elapsed());

@@ -1,54 +1,38 @@
 //! What a script prints, beside the second program's text.
 
-use std::io::Write;
-use std::process::{Command, Stdio};
-
 use second::program::run_script;
 
 use crate::library;
+use crate::program::same;
 
 /// What the program lends.
 pub const STORE_LENGTH: usize = 65_536;
-/// What a script of 65,536 bytes can print at most.
-pub const OUTPUT_LENGTH: usize = 10 * 65_536 + 11;
+/// A byte that stays where nothing is printed.
+const UNTOUCHED: u8 = 0xA5;
 
-/// The text that both have of a script.
+/// The text that both have of a script, in just as much output as is asked for it. What follows the text is untouched.
 pub fn compare(script: &[u8]) -> Result<Vec<u8>, String> {
     let mut expected = Vec::new();
     run_script(script, &mut expected).expect("a vector takes all that is written");
-    let mut output = vec![0; OUTPUT_LENGTH];
+    let mut output = vec![UNTOUCHED; library::output_asked(script.len())];
     let printed =
         library::run(script, &mut vec![0; STORE_LENGTH], &mut output).ok_or("the output is too short")?;
-    output.truncate(printed);
-    same(&output, &expected)?;
+    same("the text", &output[..printed], &expected)?;
+    if output[printed..].iter().any(|&byte| byte != UNTOUCHED) {
+        return Err("the output behind the text is touched".to_string());
+    }
     Ok(expected)
 }
 
-/// The same through the program itself.
-pub fn compare_program(program: &str, script: &[u8], expected: &[u8]) -> Result<(), String> {
-    let fails = |error: std::io::Error| format!("{program}: {error}");
-    let mut child =
-        Command::new(program).stdin(Stdio::piped()).stdout(Stdio::piped()).spawn().map_err(fails)?;
-    let mut input = child.stdin.take().expect("the input is piped");
-    // A program that has read enough may close its input.
-    let written = input.write_all(script);
-    drop(input);
-    let output = child.wait_with_output().map_err(fails)?;
-    if !output.status.success() {
-        return Err(format!("{program}: {}, {written:?}", output.status));
+/// One byte of output less than is asked is too short, whatever the script prints, and nothing is touched.
+pub fn too_short(script: &[u8]) -> Result<(), String> {
+    let mut store = vec![UNTOUCHED; STORE_LENGTH];
+    let mut output = vec![UNTOUCHED; library::output_asked(script.len()) - 1];
+    if library::run(script, &mut store, &mut output).is_some() {
+        return Err("run with less output than is asked".to_string());
     }
-    same(&output.stdout, expected)
-}
-
-fn same(found: &[u8], expected: &[u8]) -> Result<(), String> {
-    if found == expected {
-        return Ok(());
+    if store.iter().chain(&output).any(|&byte| byte != UNTOUCHED) {
+        return Err("too short an output, and something is touched".to_string());
     }
-    let line = |text: &[u8], at: usize| {
-        let lines = String::from_utf8_lossy(text).into_owned();
-        lines.lines().nth(at).unwrap_or("nothing").to_string()
-    };
-    let at = found.split(|&byte| byte == b'\n').zip(expected.split(|&byte| byte == b'\n'));
-    let at = at.take_while(|(one, other)| one == other).count();
-    Err(format!("line {at} is '{}', expected '{}'", line(found, at), line(expected, at)))
+    Ok(())
 }

@@ -19,12 +19,12 @@ enum-told c = search needs
 returns : tie.Need-returns
 returns c =
     let called = c .before .before .before in
-    block-is _ _ _ _ (called .block-size .ensures) (c .before .sized .given .1)
+    block-is (called .block-size .ensures) (c .before .sized .given .1)
 
 returns-2 : tie.Need-returns-2
 returns-2 c =
     let called = c .before .before in
-    block-is _ _ _ _ (called .block-size .ensures) (c .enum-told .given .1)
+    block-is (called .block-size .ensures) (c .enum-told .given .1)
 
 pub sizing-block-spec : {M : Type 1} → statement M
 sizing-block-spec =

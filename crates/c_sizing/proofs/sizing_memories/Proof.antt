@@ -16,12 +16,12 @@ enum-told c = search needs
 returns : tie.Need-returns
 returns c =
     let called = c .before .before .before in
-    memories-are _ _ _ _ _ (called .memory-sizes .ensures) (c .before .derived .given .1)
+    memories-are (called .memory-sizes .ensures) (c .before .derived .given .1)
 
 returns-2 : tie.Need-returns-2
 returns-2 c =
     let called = c .before .before in
-    memories-are _ _ _ _ _ (called .memory-sizes .ensures) (c .enum-told .given .1)
+    memories-are (called .memory-sizes .ensures) (c .enum-told .given .1)
 
 pub sizing-memories-spec : {M : Type 1} → statement M
 sizing-memories-spec =

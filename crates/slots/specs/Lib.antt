@@ -1,0 +1,2 @@
+-- What the program promises.
+pub mod Says

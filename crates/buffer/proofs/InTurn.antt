@@ -1,6 +1,6 @@
 -- The steps one after the other are the model's accepted slot, and an accepted slot meets what each of them asks: so
 -- the methods can be called in turn wherever the slot is accepted, and what they hand back is the slot's own state.
-use mathlib.Core.Path.{_≡_, refl, ap, sym, _∙_}
+use mathlib.Core.Path.{_≡_, refl, ap, sym, _∙_, subst}
 use mathlib.Core.Bool.{Bool}
 use mathlib.Core.List.{List}
 use mathlib.Core.Option.{Option, some}
@@ -9,9 +9,9 @@ use native.Mathlib.Omega.{arith}
 use lib.ListN.{length, drop}
 use Rattle.model.specs.Sizes.{paper, tailSize, headSize}
 use Rattle.model.specs.State.{Byte, empty, State, tailBytes, blocks}
-use Rattle.model.specs.Slot.{Call, oldestCell, afterDelivery, afterArrival, isOwed, afterRequest}
+use Rattle.model.specs.Slot.{Call, Answer, oldestCell, delivery, afterDelivery, afterArrival, isOwed, afterRequest}
 use Rattle.model.specs.Slot.{queueToWrite, afterWrite, storeWritten, queueToRead, afterRead, afterPhase, joined, asked}
-use Rattle.model.specs.Slot.{wrote, wroteStore, refilled, accept}
+use Rattle.model.specs.Slot.{wrote, wroteStore, refilled, refusal, answer, slot}
 use Rattle.model.proofs.basics.Limits.{within-limits}
 use Rattle.model.proofs.basics.Rings.{fewer-blocks}
 use Rattle.model.proofs.one_slot.Rules.{Rules}
@@ -30,48 +30,8 @@ pub opened-closed : (x : State) (arrival : Option Byte)
 opened-closed x arrival =
     same-state (x .sizes) refl refl refl (without-last (drop 1 (x .cells)) empty) refl refl refl
 
--- The steps, each on what the one before it left, with the queues that step 4 finds there.
-pub record StepByStep (x : State) (store : List ℕ) (call : Call) (x₁ x₂ x₃ x₄ x₅ x₆ : State) (store₄ : List ℕ) : Type
-    0 where
-  pub delivered : x₁ ≡ opened x
-  pub arrived : x₂ ≡ afterArrival (call .arrival) x₁
-  pub asked-is : x₃ ≡ afterRequest (call .request) (closed x₂)
-  pub wrote-is : x₄ ≡ afterWrite (queueToWrite x₃) x₃
-  pub store-is : store₄ ≡ storeWritten (queueToWrite x₃) x₃ store
-  pub read-is : x₅ ≡ afterRead (queueToRead x₄) x₄ store₄
-  pub turned : x₆ ≡ afterPhase x₅
-
+-- What each step asks, where the slot is accepted.
 module _ (x : State) (store : List ℕ) (call : Call) where
-  pub moves-are-the-slot :
-      (x₁ x₂ x₃ x₄ x₅ x₆ : State) (store₄ : List ℕ)
-      → StepByStep x store call x₁ x₂ x₃ x₄ x₅ x₆ store₄
-      → (x₆ ≡ accept x store call .state) × (store₄ ≡ accept x store call .store)
-  moves-are-the-slot x₁ x₂ x₃ x₄ x₅ x₆ store₄ s = (state-6, store-4)
-    where
-      state-2 : closed x₂ ≡ joined x call
-      state-2 =
-          ap closed (s .arrived ∙ ap (afterArrival (call .arrival)) (s .delivered))
-          ∙ opened-closed x (call .arrival)
-
-      state-3 : x₃ ≡ asked x call
-      state-3 = s .asked-is ∙ ap (afterRequest (call .request)) state-2
-
-      state-4 : x₄ ≡ wrote x call
-      state-4 = s .wrote-is ∙ ap (λ (y : State). afterWrite (queueToWrite y) y) state-3
-
-      store-4 : store₄ ≡ wroteStore x store call
-      store-4 = s .store-is ∙ ap (λ (y : State). storeWritten (queueToWrite y) y store) state-3
-
-      state-5 : x₅ ≡ refilled x store call
-      state-5 =
-          s .read-is
-          ∙ ap (λ (y : State). afterRead (queueToRead y) y store₄) state-4
-          ∙ ap (afterRead (queueToRead (wrote x call)) (wrote x call)) store-4
-
-      state-6 : x₆ ≡ accept x store call .state
-      state-6 = s .turned ∙ ap afterPhase state-5
-
-  -- What each step asks, where the slot is accepted.
   module _ (a : Accepted paper x store call) where
     abbrev j : Judged paper x store call
     j = a .judged
@@ -161,3 +121,94 @@ module _ (x : State) (store : List ℕ) (call : Call) where
 
     pub turn-can : refilled x store call .phase < refilled x store call .sizes .b
     turn-can = j .kept .phase-ok
+
+-- Two answers that agree in each part.
+same-answer : {n m : ℕ} {d e : Option Byte} {w v r p : Option ℕ} {x y : State} {xs ys : List ℕ}
+    → n ≡ m → d ≡ e → w ≡ v → r ≡ p → x ≡ y → xs ≡ ys
+    → _≡_ {A = Answer} (record { number = n; delivered = d; written = w; read = r; state = x; store = xs })
+    (record { number = m; delivered = e; written = v; read = p; state = y; store = ys })
+same-answer a b c d e f = rw (a, b, c, d, e, f)
+
+-- Each step of an accepted slot finds what it asks in the state that the one before it left, whoever made that state,
+-- where it is told what the slot decides.
+module _ (x : State) (store : List ℕ) (call : Call) (accepted : Accepted paper x store call) where
+  pub can-deliver : DeliverAsks x
+  can-deliver = deliver-can x store call accepted
+
+  -- 1 and 2.
+  module _ {x₁ : State} (delivered : x₁ ≡ opened x) where
+    pub can-arrive : CachesFit x₁
+    can-arrive = subst CachesFit (sym delivered) (arrive-can x store call accepted)
+
+    -- 3.
+    module _ {x₂ : State} (arrived : x₂ ≡ afterArrival (call .arrival) x₁) where
+      pub state-2 : x₂ ≡ afterArrival (call .arrival) (opened x)
+      state-2 = arrived ∙ ap (afterArrival (call .arrival)) delivered
+
+      pub can-ask : (owing : Bool) → ((q : ℕ) → call .request ≡ some q → owing ≡ isOwed (joined x call) q)
+          → AskAsks x₂ owing (call .request)
+      can-ask owing told =
+          subst (λ (y : State). AskAsks y owing (call .request)) (sym state-2)
+          (ask-can x store call accepted owing told)
+
+      -- 4.
+      module _ {x₃ : State} (asked-is : x₃ ≡ afterRequest (call .request) (closed x₂)) where
+        pub state-3 : x₃ ≡ asked x call
+        state-3 =
+            asked-is ∙ ap (afterRequest (call .request)) (ap closed state-2 ∙ opened-closed x (call .arrival))
+
+        module _ {written : Option ℕ} (to-write : written ≡ queueToWrite (asked x call)) where
+          pub can-write : WriteAsks x₃ written store
+          can-write =
+              subst (λ (y : State). WriteAsks y written store) (sym state-3)
+              (subst (λ (o : Option ℕ). WriteAsks (asked x call) o store) (sym to-write)
+              (write-can x store call accepted))
+
+          module _ {x₄ : State} {store₄ : List ℕ} (wrote-is : x₄ ≡ afterWrite written x₃)
+              (store-is : store₄ ≡ storeWritten written x₃ store) where
+            pub state-4 : x₄ ≡ wrote x call
+            state-4 =
+                wrote-is ∙ ap (afterWrite written) state-3 ∙ ap (λ (o : Option ℕ). afterWrite o (asked x call)) to-write
+
+            store-4 : store₄ ≡ wroteStore x store call
+            store-4 =
+                store-is
+                ∙ ap (λ (y : State). storeWritten written y store) state-3
+                ∙ ap (λ (o : Option ℕ). storeWritten o (asked x call) store) to-write
+
+            module _ {readQueue : Option ℕ} (to-read : readQueue ≡ queueToRead (wrote x call)) where
+              pub can-read : ReadAsks x₄ readQueue store₄
+              can-read =
+                  subst (λ (y : State). ReadAsks y readQueue store₄) (sym state-4)
+                  (subst (λ (o : Option ℕ). ReadAsks (wrote x call) o store₄) (sym to-read)
+                  (subst (ReadAsks (wrote x call) (queueToRead (wrote x call))) (sym store-4)
+                  (read-can x store call accepted)))
+
+              -- 5, and all of them.
+              module _ {x₅ : State} (read-is : x₅ ≡ afterRead readQueue x₄ store₄) where
+                state-5 : x₅ ≡ refilled x store call
+                state-5 =
+                    read-is
+                    ∙ ap (λ (o : Option ℕ). afterRead o x₄ store₄) to-read
+                    ∙ ap (λ (y : State). afterRead (queueToRead (wrote x call)) y store₄) state-4
+                    ∙ ap (afterRead (queueToRead (wrote x call)) (wrote x call)) store-4
+
+                pub can-turn : x₅ .phase < x₅ .sizes .b
+                can-turn =
+                    subst (λ (y : State). y .phase < y .sizes .b) (sym state-5) (turn-can x store call accepted)
+
+                pub all-in-turn : {x₆ : State} → x₆ ≡ afterPhase x₅ → {given : Option Byte} → given ≡ delivery x
+                    → refusal paper x store call ≡ 0
+                    → _≡_ {A = Answer}
+                    (record {
+                      number = 0;
+                      delivered = given;
+                      written = written;
+                      read = readQueue;
+                      state = x₆;
+                      store = store₄;
+                    })
+                    (slot paper x store call)
+                all-in-turn turned gave none-refused =
+                    same-answer refl gave to-write to-read (turned ∙ ap afterPhase state-5) store-4
+                    ∙ ap (λ (n : ℕ). answer n x store call) (sym none-refused)

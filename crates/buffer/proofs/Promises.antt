@@ -6,12 +6,14 @@ use mathlib.Core.List.{List}
 use mathlib.Core.Option.{none}
 use Prim.Native.Nat.{ℕ}
 use native.Mathlib.Omega.{arith}
-use lib.ListN.{length}
-use Rattle.model.specs.Sizes.{paper}
+use lib.Dec.{ltb}
+use lib.ListN.{length, replicate, length-replicate}
+use borrow.Author.Tests.{ltb-true, ltb-false}
+use Rattle.model.specs.Sizes.{paper, storeBytes}
 use Rattle.model.specs.State.{State, keeps, SameButMarks}
-use Rattle.model.specs.Slot.{Call, Answer, slot}
+use Rattle.model.specs.Slot.{Call, Answer, refusal, refuse, slot}
 use Rattle.model.specs.Lists.{Promised}
-use Rattle.model.proofs.basics.Tests.{by-zero}
+use Rattle.model.proofs.basics.Tests.{by-zero, by-test}
 use Rattle.model.proofs.one_slot.Rules.{Keeps, keeps-facts}
 use Rattle.model.proofs.one_slot.Accepted.{RefusedOrAccepted, was-refused, was-accepted, outcome}
 use Rattle.model.proofs.one_slot.Kept.{Kept, slot-kept}
@@ -20,9 +22,11 @@ use Rattle.layout.specs.declared.Regs.{Regs}
 use Rattle.layout.specs.Views.{Arrays}
 use Rattle.slot_in_place.specs.declared.Advanced.{Advanced}
 use Rattle.slot_checked.specs.Says as checked
+use Rattle.slot_checked.proofs.Judging.{three, two}
+use Rattle.slot_checked.proofs.Planned.{slot-number}
 use Rattle.buffer.specs.declared.State as code
 use Rattle.buffer.specs.declared.Slotted.{Slotted}
-use Rattle.buffer.specs.Says.{stateOf, arraysOf, SlotSays, StepSays}
+use Rattle.buffer.specs.Says.{stateOf, arraysOf, JudgeSays, answerOf, SlotSays, StepSays}
 
 -- A slot that answers a refusal delivers and moves nothing, and leaves all as it was.
 pub record Untouched (x : State) (store : List ℕ) (a : Answer) : Type 0 where
@@ -74,6 +78,51 @@ slot-promised-any x store call =
       as-given = λ f. u .same-state;
     })
 
+-- The slot's number tells of 3 and 2 whether they are ruled out.
+pub judge-says : (x : State) (bytes : ℕ) (call : Call) {r : ℕ}
+    → ((store : List ℕ) → length store ≡ bytes → r ≡ slot paper x store call .number) → JudgeSays x bytes call r
+judge-says x bytes call {r} number-is = record {
+  number-is = number-is;
+  can-step = λ not-3 not-2.
+      by-test (keeps paper x)
+      (λ t. by-test (ltb bytes (storeBytes (x .sizes)))
+      (λ u. absurd (not-2 (number ∙ ap (λ (a : Answer). a .number)
+      (two x store call t (omega (arith, long, ltb-true bytes (storeBytes (x .sizes)) u))))))
+      (λ u. (t, ltb-false bytes (storeBytes (x .sizes)) u)))
+      (λ t. absurd (not-3 (number ∙ ap (λ (a : Answer). a .number) (three x store call t))));
+}
+  where
+    store : List ℕ
+    store = replicate bytes 0
+
+    long : length store ≡ bytes
+    long = length-replicate bytes 0
+
+    number : r ≡ slot paper x store call .number
+    number = number-is store long
+
+pub judged-clear : {x : State} (store : List ℕ) {call : Call} {r : ℕ} → JudgeSays x (length store) call r → r ≡ 0
+    → refusal paper x store call ≡ 0
+judged-clear {x} store {call} says z = sym (slot-number x store call) ∙ sym (says .number-is store refl) ∙ z
+
+-- What answers as the model's slot does, and hands the very record back on a refusal, keeps the slot's promise.
+says-slot : (s : code.State) (store : List ℕ) (call : Call) {r : Slotted} {store′ : List ℕ}
+    → answerOf r store′ ≡ slot paper (stateOf s) store call → ((r .number ≡ 0 → ⊥) → r .state ≡ s)
+    → SlotSays s store call r store′
+says-slot s store call e given = record {
+  promised = subst (Promised paper (stateOf s) store call) (sym e) (slot-promised-any (stateOf s) store call);
+  as-given = given;
+}
+
+-- A slot that is refused before anything moves.
+pub refused-slot : (x : State) (store : List ℕ) (call : Call) {n : ℕ} → n ≡ slot paper x store call .number
+    → (n ≡ 0 → ⊥) → refuse n x store ≡ slot paper x store call
+refused-slot x store call {n} e f = go (slot paper x store call) (outcome paper x store call) e
+  where
+    go : (a : Answer) → RefusedOrAccepted paper x store call a → n ≡ a .number → refuse n x store ≡ a
+    go a (was-refused m e) z = ap (λ (k : ℕ). refuse k x store) z
+    go a (was-accepted e) z = absurd (f z)
+
 -- The record that registers and five arrays make, and the answer that a slot on them makes with it.
 abbrev pub stateFrom : Regs → Arrays → code.State
 stateFrom regs m = record {
@@ -98,13 +147,8 @@ module _ {s : code.State} {store : List ℕ} {call : Call} {a : Advanced} {m : A
     (v : checked.CheckedSays (s .regs) (arraysOf s) store call a m store′) where
   -- A slot by value, accepted or refused.
   pub slot-says : SlotSays s store call (slottedFrom a m) store′
-  slot-says = record {
-    promised = subst (Promised paper (stateOf s) store call) (sym (v .answer-is))
-        (slot-promised-any (stateOf s) store call);
-    as-given = λ f.
-        ap (λ (regs : Regs). stateFrom regs m) (v .as-given f .0)
-        ∙ ap (stateFrom (s .regs)) (v .as-given f .1);
-  }
+  slot-says = says-slot s store call (v .answer-is) (λ f.
+      ap (λ (regs : Regs). stateFrom regs m) (v .as-given f .0) ∙ ap (stateFrom (s .regs)) (v .as-given f .1))
 
   -- The same where the rules are kept.
   pub step-says : keeps paper (stateOf s) ≡ true → StepSays s store call (slottedFrom a m) store′

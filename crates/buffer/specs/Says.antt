@@ -2,12 +2,12 @@
 use mathlib.Core.Path.{_≡_}
 use mathlib.Core.Bool.{true}
 use mathlib.Core.List.{List}
-use Prim.Native.Nat.{ℕ, _<_}
+use Prim.Native.Nat.{ℕ, _<_, _≤_}
 use lib.ListN.{length, getD, replicate}
 use Rattle.model.specs.Basics.{choose}
-use Rattle.model.specs.Sizes.{sizes, paperLimits, accepts, paper}
+use Rattle.model.specs.Sizes.{sizes, paperLimits, accepts, paper, storeBytes}
 use Rattle.model.specs.State.{State, empty, fresh, makingNumber, keeps}
-use Rattle.model.specs.Slot.{Call, Answer}
+use Rattle.model.specs.Slot.{Call, Answer, slot}
 use Rattle.model.specs.Lists.{Promised}
 use Rattle.layout.specs.Lengths.{tailPlaces, headPlaces, cellPlaces, queuePlaces}
 use Rattle.layout.specs.Calls.{chosenIn, deliveryIn}
@@ -52,6 +52,12 @@ pub record MakeSays (q b k : ℕ) (r : Made) : Type 0 where
   pub record-is : r .state ≡ choose (accepts paperLimits (sizes q b k)) (freshState q b k) (freshState 0 0 0)
   pub fresh-is : accepts paperLimits (sizes q b k) ≡ true → stateOf (r .state) ≡ fresh paper (sizes q b k)
   pub cells-empty : (i : ℕ) → i < cellPlaces → cellOf (getD (r .state .cells) i 0) ≡ empty
+
+-- What judging a slot promises, of any state and any store of so many bytes: the very number that the slot answers.
+-- `can-step`: where it is neither 3 nor 2, the state keeps the rules and the store is long enough.
+pub record JudgeSays (x : State) (bytes : ℕ) (call : Call) (r : ℕ) : Type 0 where
+  pub number-is : (store : List ℕ) → length store ≡ bytes → r ≡ slot paper x store call .number
+  pub can-step : (r ≡ 3 → ⊥) → (r ≡ 2 → ⊥) → (keeps paper x ≡ true) × (storeBytes (x .sizes) ≤ bytes)
 
 -- A slot's answer in the model's terms.
 abbrev pub answerOf : Slotted → List ℕ → Answer

@@ -8,7 +8,7 @@ ghost use Rattle.model.specs.State.{keeps};
 ghost use Rattle.layout.specs.Calls.{callIn};
 ghost use Rattle.layout.specs.Views.{sizesIn};
 ghost use Rattle.buffer.specs.Demand.{CallsMeet};
-ghost use Rattle.buffer.specs.Says.{stateOf, freshState, MakeSays, SlotSays, StepSays};
+ghost use Rattle.buffer.specs.Says.{stateOf, freshState, MakeSays, JudgeSays, SlotSays, StepSays};
 use layout::Arrival;
 use layout::CELL_PLACES;
 use layout::CellArray;
@@ -96,7 +96,8 @@ impl State {
         }
     }
 
-    // One slot of a state that keeps the rules, with a store that is long enough: for a caller that knows both.
+    // One slot of a state that keeps the rules, with a store that is long enough: for a caller that knows both, from
+    // `judge`, which answered neither 3 nor 2, or from the slot or step before.
     pub fn step(self, arrival: Arrival, request: Request, store: &mut [u8]) -> Slotted
         requires { ⌜ (keeps paper (stateOf self) ≡ true) × (storeBytes (sizesIn (self .regs)) ≤ length (now store)) ⌝ }
         ensures { λ r. ⌜ StepSays self (now (store .entry)) (callIn arrival request) r (now (store .exit)) ⌝ }
@@ -137,6 +138,24 @@ impl State {
             written: written,
             read: read,
         }
+    }
+
+    // The number that a slot answers, of any state and with any store of so many bytes. Nothing changes.
+    pub fn judge(self, arrival: Arrival, request: Request, bytes: usize) -> u8
+        ensures { λ r. ⌜ JudgeSays (stateOf self) bytes (callIn arrival request) r ⌝ }
+    {
+        let plan = slot_checked::plan(
+            &self.tail,
+            &self.head,
+            &self.cells,
+            &self.firsts,
+            &self.stored,
+            self.regs,
+            arrival,
+            request,
+            bytes,
+        );
+        plan.number
     }
 
     // One slot, of any state and any store: 3 and 2 are judged first, and then the rest by number. On a refusal the

@@ -1,5 +1,8 @@
 // "The state goes into a slot and is handed back by it": the steps of a slot as methods on the state, each by value and
-// each of the whole state.
+// each of the whole state. A step asks only what its own move needs, and lets pass what the slot refuses with 4, 5, 6 and
+// 9: an arrival of queue 200 joins the tail of a state that has one queue. So whoever calls them has `State::judge`
+// answer first. After an answer of 0 the steps in turn, told by the choices of crates/buffer_choices, find what they ask,
+// and are the slot: `buffer_choices::steps_in_turn`.
 ghost use mathlib.Core.Path.{_≡_};
 ghost use Prim.Native.Nat.{_+_, _-_, _*_, _<_, _≤_};
 ghost use lib.ListN.{length};
@@ -32,7 +35,7 @@ fn shift_in_empty(cells: &mut CellArray, l: usize)
 }
 
 impl State {
-    // 1. "The oldest cell leaves": what it delivers, and the state with an empty youngest cell.
+    // 1. "The oldest cell leaves": what it delivers, and the state with an empty youngest cell. `judge` rules out 8.
     pub fn deliver(mut self) -> Delivered
         requires { ⌜ DeliverAsks (stateOf self) ⌝ }
         ensures { λ r. ⌜ (stateOf (r .state) ≡ opened (stateOf self))
@@ -51,7 +54,7 @@ impl State {
         }
     }
 
-    // 2. "The arriving byte joins the tail." The mark rises with the fill.
+    // 2. "The arriving byte joins the tail." The mark rises with the fill. 4, 5 and 9 are for `judge`.
     pub fn arrive(mut self, arrival: Arrival) -> State
         requires { ⌜ CachesFit (stateOf self) ⌝ }
         ensures { λ r. ⌜ stateOf r ≡ afterArrival (arrivalIn arrival) (stateOf self) ⌝ }
@@ -63,7 +66,8 @@ impl State {
         self
     }
 
-    // 3. "The request takes the youngest cell": Owed where `owes` says so, else Held.
+    // 3. "The request takes the youngest cell": Owed where `owes` says so, as `buffer_choices::owes_request` tells, else
+    // Held. 6 is for `judge`, which rules out 7.
     pub fn ask(mut self, owes: bool, request: Request) -> State
         requires { ⌜ AskAsks (stateOf self) owes (requestIn request) ⌝ }
         ensures { λ r. ⌜ stateOf r ≡ afterRequest (requestIn request) (closed (stateOf self)) ⌝ }
@@ -76,7 +80,8 @@ impl State {
         self
     }
 
-    // 4. "First a write": the chosen queue's b oldest tail bytes go to the next block of its ring.
+    // 4. "First a write": the chosen queue's b oldest tail bytes go to the next block of its ring. The queue is that of
+    // `buffer_choices::to_write`.
     pub fn write(mut self, written: Chosen, store: &mut [u8]) -> State
         requires { ⌜ WriteAsks (stateOf self) (chosenIn written) (now store) ⌝ }
         ensures { λ r. ⌜ (stateOf r ≡ afterWrite (chosenIn written) (stateOf self))
@@ -99,7 +104,8 @@ impl State {
         self
     }
 
-    // 4. "Then a read": the chosen queue's first block goes to the head. The mark rises with the fill.
+    // 4. "Then a read": the chosen queue's first block goes to the head. The mark rises with the fill. The queue is that of
+    // `buffer_choices::to_read`; `judge` rules out 10.
     pub fn read(mut self, chosen: Chosen, store: &[u8]) -> State
         requires { ⌜ ReadAsks (stateOf self) (chosenIn chosen) (now store) ⌝ }
         ensures { λ r. ⌜ stateOf r ≡ afterRead (chosenIn chosen) (stateOf self) (now (store .entry)) ⌝ }

@@ -1,21 +1,24 @@
--- The six steps of a slot as methods, called in turn, told by the three choices: whoever calls them so gets the slot.
+-- The six steps of a slot as methods, called in turn after a judgement of 0 and told by the three choices: whoever calls
+-- them so gets the slot.
 -- It cites the contracts alone, so that it holds of whatever meets them.
 use mathlib.Core.Path.{_≡_}
 use mathlib.Core.Bool.{Bool}
 use mathlib.Core.List.{List}
 use mathlib.Core.Option.{some}
 use Prim.Native.Nat.{ℕ, _<_}
+use lib.ListN.{length}
 use Rattle.model.specs.Sizes.{paper}
 use Rattle.model.specs.State.{State}
-use Rattle.model.specs.Slot.{Answer, delivery, afterArrival, isOwed, afterRequest, queueToWrite, afterWrite}
-use Rattle.model.specs.Slot.{storeWritten, queueToRead, afterRead, afterPhase, refusal, slot}
+use Rattle.model.specs.Slot.{Call, Answer, delivery, afterArrival, isOwed, afterRequest, queueToWrite, afterWrite}
+use Rattle.model.specs.Slot.{storeWritten, queueToRead, afterRead, afterPhase, slot}
 use Rattle.layout.specs.declared.Chosen.{Chosen}
 use Rattle.layout.specs.Calls.{chosenIn, arrivalIn, requestIn, deliveryIn, callIn}
 use Rattle.layout.specs.declared.Arrival.{Arrival}
 use Rattle.layout.specs.declared.Request.{Request}
 use Rattle.layout.specs.declared.Delivery.{Delivery}
 use Rattle.buffer.specs.declared.State as code
-use Rattle.buffer.specs.Says.{stateOf}
+use Rattle.buffer.specs.declared.Slotted.{Slotted}
+use Rattle.buffer.specs.Says.{stateOf, JudgeSays, answerOf}
 use Rattle.buffer.specs.OneStep.{opened, closed, CachesFit, DeliverAsks, AskAsks, WriteAsks, ReadAsks}
 
 -- What the nine calls gave, in their order: the state of each step, and what the choices told. The store is as the
@@ -79,9 +82,14 @@ pub record MakesTheSlot (s : code.State) (store : List ℕ) (arrival : Arrival) 
     pub turn-can : stateOf (g .after-read) .phase < stateOf (g .after-read) .sizes .b
     pub answer-is : answerOfSteps g ≡ slot paper (stateOf s) store (callIn arrival request)
 
--- Of any call that the slot does not refuse: so the state keeps the rules and the store is long enough.
+-- Of any state, store and call of which `State::judge` answered 0.
 abbrev pub StepsInTurn : Type 0
 StepsInTurn =
-    (s : code.State) (store : List ℕ) (arrival : Arrival) (request : Request) (g : StepAnswers)
-    → refusal paper (stateOf s) store (callIn arrival request) ≡ 0
+    (s : code.State) (store : List ℕ) (arrival : Arrival) (request : Request) (judged : ℕ) (g : StepAnswers)
+    → JudgeSays (stateOf s) (length store) (callIn arrival request) judged → judged ≡ 0
     → ByContract s store arrival request g → MakesTheSlot s store arrival request g
+
+-- The slot made so, of any state and any store: exactly the model's, marks included, and on a refusal the very record.
+pub record InTurnSays (s : code.State) (store : List ℕ) (call : Call) (r : Slotted) (store′ : List ℕ) : Type 0 where
+  pub answer-is : answerOf r store′ ≡ slot paper (stateOf s) store call
+  pub as-given : (r .number ≡ 0 → ⊥) → r .state ≡ s

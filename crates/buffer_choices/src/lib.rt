@@ -6,19 +6,19 @@ ghost use mathlib.Core.Option.{some};
 ghost use Prim.Native.Nat.{ℕ, _+_, _-_, _*_, _≤_, min};
 ghost use lib.Dec.{eqb};
 ghost use lib.ListN.{length};
-ghost use Rattle.model.specs.Sizes.{paper};
-ghost use Rattle.model.specs.Slot.{isOwed, fullest, queueToWrite, refillQueue, queueToRead, refusal, slot};
+ghost use Rattle.model.specs.Slot.{isOwed, fullest, queueToWrite, refillQueue, queueToRead};
 ghost use Rattle.layout.specs.Lengths.{headPlaces, queuePlaces};
 ghost use Rattle.layout.specs.Entries.{bytesIn, countsIn, cellsIn};
 ghost use Rattle.layout.specs.Calls.{chosenIn, requestIn, callIn};
 ghost use Rattle.layout.specs.Figures.{blocksIn};
-ghost use Rattle.buffer.specs.Says.{stateOf, answerOf};
+ghost use Rattle.buffer.specs.Says.{stateOf};
 ghost use Rattle.buffer_choices.specs.Says.{TallyOfAll};
-ghost use Rattle.buffer_choices.specs.InTurn.{StepsInTurn};
+ghost use Rattle.buffer_choices.specs.InTurn.{StepsInTurn, InTurnSays};
 use buffer::Slotted;
 use buffer::State;
 use layout::Arrival;
 use layout::Chosen;
+use layout::Delivery;
 use layout::HEAD_PLACES;
 use layout::OWED;
 use layout::QUEUE_PLACES;
@@ -77,18 +77,21 @@ fn scan(cells: &[u32], l: usize, credits: [u16; 256]) -> Chosen
 {
     let mut left = credits;
     let mut i: usize = 0;
-    while i < l {
+    let found = loop {
+        if i == l {
+            break Chosen::Nothing;
+        }
         let cell = cells[i];
         if OWED <= cell {
             let q = (cell / 256 % 256) as usize;
             if left[q] == 0 {
-                return Chosen::Queue(q as u8);
+                break Chosen::Queue(q as u8);
             }
             left[q] = left[q] - 1;
         }
         i += 1;
-    }
-    Chosen::Nothing
+    };
+    found
 }
 
 // The bytes of a queue in the slow store, b × blocks. A block counts for 2,018 bytes at most, which is more than there
@@ -168,12 +171,21 @@ pub fn owes_request(state: State, request: Request) -> bool
     }
 }
 
-// One slot that is not refused, by its steps in turn, each choice made on the state at hand.
+// One slot, of any state and any store: judged, and where nothing is refused its steps in turn, each choice made on the
+// state at hand. On a refusal the very record comes back.
 pub fn in_turn(state: State, arrival: Arrival, request: Request, store: &mut [u8]) -> Slotted
-    requires { ⌜ refusal paper (stateOf state) (now store) (callIn arrival request) ≡ 0 ⌝ }
-    ensures { λ r. ⌜ answerOf r (now (store .exit))
-        ≡ slot paper (stateOf state) (now (store .entry)) (callIn arrival request) ⌝ }
+    ensures { λ r. ⌜ InTurnSays state (now (store .entry)) (callIn arrival request) r (now (store .exit)) ⌝ }
 {
+    let number = state.judge(arrival, request, store.len());
+    if number != 0 {
+        return Slotted {
+            state: state,
+            number: number,
+            delivery: Delivery::NoDelivery,
+            written: Chosen::Nothing,
+            read: Chosen::Nothing,
+        };
+    }
     let first = state.deliver();
     let delivery = first.delivery;
     let delivered = first.state;

@@ -1,19 +1,16 @@
-// The same nine slots, each by its six steps in turn: a step is told by the state that the one before it left.
-ghost use mathlib.Core.Path.{_≡_};
-ghost use Rattle.model.specs.Sizes.{paper};
-ghost use Rattle.model.specs.Slot.{refusal, slot};
-ghost use Rattle.layout.specs.Calls.{callIn};
-ghost use Rattle.buffer.specs.Says.{stateOf};
+// The same nine slots, each judged and then by its six steps in turn: a step is told by the state that the one before it
+// left.
 use buffer::State;
 use layout::Arrival;
 use layout::Request;
 
-// One slot, which the caller knows not to be refused: prints what it moved, and hands its state on.
-fn in_steps(t: u64, state: State, arrival: Arrival, request: Request, store: &mut [u8]) -> State
-    requires { ⌜ refusal paper (stateOf state) (now store) (callIn arrival request) ≡ 0 ⌝ }
-    ensures { λ r. ⌜ (stateOf r ≡ slot paper (stateOf state) (now (store .entry)) (callIn arrival request) .state)
-        × (now (store .exit) ≡ slot paper (stateOf state) (now (store .entry)) (callIn arrival request) .store) ⌝ }
-{
+// One slot: prints what it moved, and hands its state on.
+fn in_steps(t: u64, state: State, arrival: Arrival, request: Request, store: &mut [u8]) -> State {
+    let number = state.judge(arrival, request, store.len());
+    if number != 0 {
+        example_print::refusal(t, number);
+        return state;
+    }
     // 1. The oldest cell leaves.
     let first = state.deliver();
     let delivery = first.delivery;
@@ -34,9 +31,13 @@ fn in_steps(t: u64, state: State, arrival: Arrival, request: Request, store: &mu
 }
 
 fn main() {
-    let mut store = [0u8; 16];
     let made = State::make(2, 2, 4);
+    if made.number != 0 {
+        example_print::refusal(0, made.number);
+        return;
+    }
     let fresh = made.state;
+    let mut store = [0u8; 16];
     let s0 = in_steps(
         0,
         fresh,

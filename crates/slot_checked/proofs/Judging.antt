@@ -28,11 +28,11 @@ number-kept kept s bytes t u =
 pub number-broken : (kept : Bool) (s : Sizes) (bytes : ℕ) → kept ≡ false → stateNumber kept s bytes ≡ 3
 number-broken kept s bytes t = ap (λ (k : Bool). stateNumber k s bytes) t
 
-three : (x : State) (store : List ℕ) (call : Call) → keeps paper x ≡ false
+pub three : (x : State) (store : List ℕ) (call : Call) → keeps paper x ≡ false
     → slot paper x store call ≡ refuse 3 x store
 three x store call e = rw (e, refusal)
 
-two : (x : State) (store : List ℕ) (call : Call) → keeps paper x ≡ true → length store < storeBytes (x .sizes)
+pub two : (x : State) (store : List ℕ) (call : Call) → keeps paper x ≡ true → length store < storeBytes (x .sizes)
     → slot paper x store call ≡ refuse 2 x store
 two x store call e h = rw (e, lt-ltb (length store) (storeBytes (x .sizes)) h, refusal)
 

@@ -10,11 +10,13 @@ use Rattle.model.specs.Sizes.{Sizes, paper, storeBytes}
 use Rattle.model.specs.State.{State, keeps}
 use Rattle.model.specs.Slot.{Call, refuse, slot}
 use Rattle.layout.specs.declared.Chosen.the-variants.{Nothing}
+use Rattle.layout.specs.Calls.{chosenIn}
 use Rattle.layout.specs.declared.Regs.{Regs}
 use Rattle.layout.specs.declared.Delivery.the-variants.{NoDelivery}
 use Rattle.layout.specs.Views.{Arrays, Long, sizesIn, stateIn}
+use Rattle.slot_plan.specs.declared.Plan.{Plan}
 use Rattle.slot_in_place.specs.declared.Advanced.{Advanced}
-use Rattle.slot_in_place.specs.Says.{answerIn, AsGiven}
+use Rattle.slot_in_place.specs.Says.{Decided, answerIn, AsGiven}
 
 -- 3 and 2, in this order, by whether the rules are kept.
 abbrev pub stateNumber : Bool → Sizes → ℕ → ℕ
@@ -25,6 +27,13 @@ pub record JudgeStateSays (x : State) (bytes r : ℕ) : Type 0 where
   pub passed : r ≡ 0 → (keeps paper x ≡ true) × (storeBytes (x .sizes) ≤ bytes)
   pub refused : (r ≡ 0 → ⊥) → (store : List ℕ) (call : Call) → length store ≡ bytes
       → slot paper x store call ≡ refuse r x store
+
+-- What a slot will do, of any state and any store of so many bytes: the number that it answers, and where that is 0 all
+-- that is decided of it. No byte of the store has a say in it.
+pub record PlanCheckedSays (x : State) (bytes : ℕ) (call : Call) (r : Plan) : Type 0 where
+  pub number-is : (store : List ℕ) → length store ≡ bytes → r .number ≡ slot paper x store call .number
+  pub decided : r .number ≡ 0 → (store : List ℕ) → length store ≡ bytes
+      → Decided x store call (r .owes) (chosenIn (r .written)) (chosenIn (r .read))
 
 -- A slot in arrays that answers a refusal.
 abbrev pub refusedAt : Regs → ℕ → Advanced

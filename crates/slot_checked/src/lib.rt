@@ -5,8 +5,8 @@ ghost use mathlib.Core.Bool.{true};
 ghost use Rattle.model.specs.Sizes.{paperLimits, accepts};
 ghost use Rattle.layout.specs.Calls.{callIn};
 ghost use Rattle.layout.specs.Lent.{given, found, left};
-ghost use Rattle.layout.specs.Views.{Long, sizesIn};
-ghost use Rattle.slot_checked.specs.Says.{stateNumber, refusedAt, RulesHold, CheckedSays};
+ghost use Rattle.layout.specs.Views.{Long, sizesIn, stateIn};
+ghost use Rattle.slot_checked.specs.Says.{stateNumber, PlanCheckedSays, refusedAt, RulesHold, CheckedSays};
 use layout::Arrival;
 use layout::CellArray;
 use layout::Chosen;
@@ -17,6 +17,7 @@ use layout::Request;
 use layout::RingArray;
 use layout::TailArray;
 use slot_in_place::Advanced;
+use slot_plan::Plan;
 
 // 3 and 2, in this order, where it is known whether the rules are kept: 0, or the number that every slot answers.
 pub fn state_number(kept: bool, regs: Regs, bytes: usize) -> u8
@@ -30,6 +31,42 @@ pub fn state_number(kept: bool, regs: Regs, bytes: usize) -> u8
         return 2;
     }
     3
+}
+
+// What a slot will do, of any state and any store of so many bytes: 3 and 2, and then as the slot in place decides it.
+pub fn plan<'a>(
+    tail: &'a TailArray,
+    head: &'a HeadArray,
+    cells: &'a CellArray,
+    firsts: &'a RingArray,
+    stored: &'a RingArray,
+    regs: Regs,
+    arrival: Arrival,
+    request: Request,
+    bytes: usize,
+) -> Plan
+    requires { ⌜ Long (given tail head cells firsts stored) ⌝ }
+    ensures { λ r. ⌜ PlanCheckedSays (stateIn regs (found tail head cells firsts stored)) bytes
+        (callIn arrival request) r ⌝ }
+{
+    let judged = slot_rules::judge_rules(tail, head, cells, firsts, stored, regs);
+    let number = state_number(judged.kept, regs, bytes);
+    if number != 0 {
+        return slot_plan::refused(number);
+    }
+    let tails = judged.tails;
+    let heads = judged.heads;
+    let owing = judged.owing;
+    slot_plan::decide(
+        cells,
+        &tails,
+        &heads,
+        &owing,
+        stored,
+        regs,
+        arrival,
+        request,
+    )
 }
 
 // A slot that answers a refusal.

@@ -113,7 +113,8 @@ pub struct Plan {
     pub read: Chosen,
 }
 
-fn refused(number: u8) -> Plan
+// The plan of a slot that is refused: nothing.
+pub fn refused(number: u8) -> Plan
     ensures { λ r. ⌜ (r .number ≡ number) ⌝ }
 {
     Plan {

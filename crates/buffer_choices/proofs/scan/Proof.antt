@@ -32,20 +32,14 @@ shared-slice-read-cell c = search needs
 cast-q : tie.Need-cast-q Inv-loop μ-loop
 cast-q c = search needs
 
-mul-if2 : tie.Need-mul-if2 Inv-loop μ-loop
-mul-if2 c = search needs
+mul-if3 : tie.Need-mul-if3 Inv-loop μ-loop
+mul-if3 c = search needs
 
-array-read-if2 : tie.Need-array-read-if2 Inv-loop μ-loop
-array-read-if2 c = omega arith
+array-read-if3 : tie.Need-array-read-if3 Inv-loop μ-loop
+array-read-if3 c = omega arith
 
-cast-t19 : tie.Need-cast-t19 Inv-loop μ-loop
-cast-t19 c = search needs
-
-returns : tie.Need-returns Inv-loop μ-loop
-returns c =
-    let inv = c .before .before .before .before .loop .inv in
-    let fits = c .before .before .before .before .before .pre in
-    scan-finds fits inv (omega arith) (omega (arith, c .before .if1 .taken)) (c .if2 .taken)
+cast-t21 : tie.Need-cast-t21 Inv-loop μ-loop
+cast-t21 c = search needs
 
 mul-left : tie.Need-mul-left Inv-loop μ-loop
 mul-left c = search needs
@@ -54,7 +48,7 @@ array-read-left : tie.Need-array-read-left Inv-loop μ-loop
 array-read-left c = omega arith
 
 sub-left : tie.Need-sub-left Inv-loop μ-loop
-sub-left c = omega (arith, c .if2 .left)
+sub-left c = omega (arith, c .if3 .left)
 
 mul-left-2 : tie.Need-mul-left-2 Inv-loop μ-loop
 mul-left-2 c = search needs
@@ -76,10 +70,16 @@ loop-again c =
     (λ w. rw (w .2) (scan-spends fits inv (omega arith) (omega (arith, w .0 .taken)) (omega arith)
     (positive _ (w .1 .left))))
     (λ w. rw (w .1) (scan-skips fits inv (omega arith) (omega (arith, w .0 .left))))
-    (c .if1 .came)
+    (c .if2 .came)
+
+returns : tie.Need-returns Inv-loop μ-loop
+returns c = scan-ends (c .before .before .pre) (c .before .loop .inv) (omega (arith, c .if1 .taken))
 
 returns-2 : tie.Need-returns-2 Inv-loop μ-loop
-returns-2 c = scan-ends (c .before .before .pre) (c .before .loop .inv) (omega (arith, c .loop-test .left))
+returns-2 c =
+    let inv = c .before .before .before .before .loop .inv in
+    let fits = c .before .before .before .before .before .pre in
+    scan-finds fits inv (omega arith) (omega (arith, c .before .if2 .taken)) (c .if3 .taken)
 
 pub scan-spec : {M : Type 1} → statement M
 scan-spec =
@@ -91,10 +91,9 @@ scan-spec =
     mul-cell
     shared-slice-read-cell
     cast-q
-    mul-if2
-    array-read-if2
-    cast-t19
-    returns
+    mul-if3
+    array-read-if3
+    cast-t21
     mul-left
     array-read-left
     sub-left
@@ -103,4 +102,5 @@ scan-spec =
     add-i
     loop-less
     loop-again
+    returns
     returns-2)

@@ -1,2 +1,0 @@
--- The proofs of the slots by their steps.
-pub mod Drawn

@@ -1,0 +1,59 @@
+-- What is decided of a slot in place, or judged of every slot, is the number of the slot itself, whatever bytes the store
+-- holds.
+use mathlib.Core.Path.{_≡_, refl, ap, sym, _∙_}
+use mathlib.Core.List.{List}
+use Prim.Native.Nat.{ℕ, zero, suc}
+use lib.ListN.{length, replicate, length-replicate}
+use Rattle.model.specs.Sizes.{paper}
+use Rattle.model.specs.State.{State}
+use Rattle.model.specs.Slot.{Call, Answer, answer, slot, refusal}
+use Rattle.layout.specs.declared.Regs.{Regs}
+use Rattle.layout.specs.Counts.{ByQueue, byQueue}
+use Rattle.layout.specs.Figures.{figuresIn}
+use Rattle.layout.specs.Views.{Arrays, Long, sizesIn, stateIn}
+use Rattle.slot_rules.specs.declared.RulesJudged.{RulesJudged}
+use Rattle.slot_rules.specs.Says.{RulesSays}
+use Rattle.slot_plan.specs.declared.Plan.{Plan}
+use Rattle.slot_plan.specs.Says.{PlanSays}
+use Rattle.slot_in_place.specs.Says.{Ready}
+use Rattle.slot_in_place.proofs.Deciding as deciding
+use Rattle.slot_checked.specs.Says.{stateNumber, JudgeStateSays, PlanCheckedSays}
+use Rattle.slot_checked.proofs.Clearing.{ready-judged}
+
+pub slot-number : (x : State) (store : List ℕ) (call : Call) → slot paper x store call .number ≡ refusal paper x store call
+slot-number x store call = go (refusal paper x store call)
+  where
+    go : (n : ℕ) → answer n x store call .number ≡ n
+    go zero = refl
+    go (suc n) = refl
+
+pub plan-refused : {x : State} {bytes number : ℕ} (call : Call) {r : Plan} → JudgeStateSays x bytes number
+    → (number ≡ 0 → ⊥) → r .number ≡ number → PlanCheckedSays x bytes call r
+plan-refused call says f e = record {
+  number-is = λ store l. e ∙ sym (ap (λ (a : Answer). a .number) (says .refused f store call l));
+  decided = λ z. absurd (f (sym e ∙ z));
+}
+
+module _ (regs : Regs) (m : Arrays) (long : Long m) (bytes : ℕ) {r : RulesJudged}
+    (says : RulesSays (stateIn regs m) r) {number : ℕ}
+    (number-is : number ≡ stateNumber (r .kept) (sizesIn regs) bytes) (none : number ≡ 0) where
+  abbrev counts : ByQueue
+  counts = byQueue (r .tails) (r .heads) (r .owing)
+
+  ready : (store : List ℕ) → length store ≡ bytes → Ready regs m counts store
+  ready store l =
+      ready-judged regs m store says
+      (number-is ∙ ap (stateNumber (r .kept) (sizesIn regs)) (sym l)) none long
+
+  -- With some store of so many bytes.
+  pub ready-with-some : Ready regs m counts (replicate bytes 0)
+  ready-with-some = ready (replicate bytes 0) (length-replicate bytes 0)
+
+  pub plan-decided : (call : Call) {p : Plan}
+      → PlanSays (figuresIn regs counts (m .stored)) (regs .phase) (regs .«head_fill») (stateIn regs m .cells) call p
+      → PlanCheckedSays (stateIn regs m) bytes call p
+  plan-decided call plan = record {
+    number-is = λ store l.
+        deciding.number-is (ready store l) call plan ∙ sym (slot-number (stateIn regs m) store call);
+    decided = λ z store l. deciding.decided (ready store l) call plan z;
+  }

@@ -3,13 +3,13 @@
 use mathlib.Core.Path.{_≡_, refl, ap, _∙_}
 use mathlib.Core.List.{List, [], _∷_, _++_}
 use mathlib.Core.Option.{some, none}
-use Prim.Native.Nat.{ℕ, _+_, _-_, _≤_, _<_}
+use Prim.Native.Nat.{ℕ, zero, suc, _+_, _-_, _≤_, _<_}
 use native.Mathlib.Omega.{arith}
 use lib.Dec.{eqb, leb}
 use lib.ListN.{length, drop, set, getD, replicate, length-set, length-replicate, drop-of-length-le}
 use lib.Seq.{drop-append-le, getD-set-other, set-getD}
 use mir.Val.{boolByte}
-use borrow.Author.Tests.{eqb-true, leb-true, leb-false}
+use borrow.Author.Tests.{eqb-true, eqb-false, leb-true, leb-false}
 use Rattle.model.specs.State.{Cell, empty, held, owed, owes, owedOf}
 use Rattle.model.specs.Slot.{refillQueue}
 use Rattle.model.proofs.basics.Tests.{by-test}
@@ -17,7 +17,7 @@ use Rattle.model.proofs.meaning.Scan.{scan-stops, scan-goes-on}
 use Rattle.layout.specs.Lengths.{queuePlaces}
 use Rattle.layout.specs.Entries.{countsIn, cellsIn}
 use Rattle.layout.proofs.Counts.{counts-zero, counts-stored}
-use Rattle.lookahead.specs.Says.{Shifted, Scanned}
+use Rattle.lookahead.specs.Says.{Shifted, EmptyTo, Scanned}
 use Rattle.layout.specs.Counts.{TallyOwed}
 use Rattle.layout.proofs.Cells.{queueAt, cell-owed, cell-owes-nothing, cell-skipped, no-cells, cells-length}
 use Rattle.layout.proofs.Cells.{cells-more, cells-stored, owed-more, cells-from}
@@ -136,6 +136,48 @@ module _ {i from l : ℕ} {xs credits left : List ℕ} (fits : l ≤ length xs) 
         by-test (leb 131072 (getD xs i 0))
         (λ t. scan-finds (leb-true 131072 (getD xs i 0) t) (omega (arith, rw t at lacking)))
         (λ t. absurd (omega (arith, rw t at lacking)))
+
+-- The scan goes past any number of cells that are not Owed.
+scan-past : {i from l : ℕ} {xs credits left : List ℕ} → l ≤ length xs → ScannedTo i from l xs credits left → (n : ℕ)
+    → i + n ≤ l → ((j : ℕ) → i ≤ j → j < i + n → getD xs j 0 < 131072) → ScannedTo (i + n) from l xs credits left
+scan-past {i} {from} {l} {xs} {credits} {left} fits w zero h others =
+    let same : i + 0 ≡ i = omega arith in rw same w
+scan-past {i} {from} {l} {xs} {credits} {left} fits w (suc n) h others =
+    let next : i + suc n ≡ i + n + 1 = omega arith in
+    rw next
+    (scan-skips fits (scan-past fits w n (omega (arith, h)) (λ j a b. others j a (omega (arith, b))))
+    (omega (arith, h)) (others (i + n) (omega arith) (omega arith)))
+
+-- Past an empty cell, and past those that are found empty behind it.
+pub scan-empties : {i from l to : ℕ} {xs credits left : List ℕ} → l ≤ length xs → ScannedTo i from l xs credits left
+    → getD xs i 0 < 65536 → EmptyTo (i + 1) to l xs → ScannedTo to from l xs credits left
+scan-empties {i} {from} {l} {to} {xs} {credits} {left} fits w first past =
+    let all : i + (to - i) ≡ to = omega (arith, past .onward) in
+    rw all at (scan-past fits w (to - i) (omega (arith, past .onward, past .within)) others)
+  where
+    others : (j : ℕ) → i ≤ j → j < i + (to - i) → getD xs j 0 < 131072
+    others j a b =
+        by-test (eqb i j)
+        (λ t. let e : i ≡ j = eqb-true i j t in rw e at (let x : getD xs i 0 < 131072 = omega (arith, first) in x))
+        (λ t. omega (arith, past .empties j (omega (arith, a, eqb-false i j t)) (omega (arith, b, past .onward))))
+
+-- The places found empty so far, and two more.
+pub empty-so-far : {from l : ℕ} {xs : List ℕ} → from ≤ l → EmptyTo from from l xs
+empty-so-far h = record { onward = omega arith; within = h; empties = λ i a b. absurd (omega (arith, a, b)) }
+
+pub empty-two-more : {from i l : ℕ} {xs : List ℕ} → EmptyTo from i l xs → i + 1 < l
+    → getD xs i 0 + getD xs (i + 1) 0 < 65536 → EmptyTo from (i + 2) l xs
+empty-two-more {from} {i} {l} {xs} w more both = record {
+  onward = omega (arith, w .onward);
+  within = omega (arith, more);
+  empties = λ j a b.
+      by-test (eqb i j)
+      (λ t. let e : i ≡ j = eqb-true i j t in rw e at (let x : getD xs i 0 < 65536 = omega (arith, both) in x))
+      (λ t. by-test (eqb (i + 1) j)
+      (λ u. let e : i + 1 ≡ j = eqb-true (i + 1) j u in
+      rw e at (let x : getD xs (i + 1) 0 < 65536 = omega (arith, both) in x))
+      (λ u. w .empties j a (omega (arith, b, eqb-false i j t, eqb-false (i + 1) j u))));
+}
 
 -- The tally before cell i is that of the first i cells.
 pub record TalliedTo (i n : ℕ) (xs counts : List ℕ) : Type 0 where

@@ -2,8 +2,8 @@
 use mathlib.Core.Path.{_≡_}
 use mathlib.Core.List.{List, [], _∷_, _++_}
 use mathlib.Core.Option.{Option, some, none}
-use Prim.Native.Nat.{ℕ, _-_}
-use lib.ListN.{length, drop}
+use Prim.Native.Nat.{ℕ, _-_, _≤_, _<_}
+use lib.ListN.{length, drop, getD}
 use Rattle.model.specs.State.{Cell, owes}
 use Rattle.model.specs.Slot.{refillQueue}
 use Rattle.layout.specs.Entries.{cellOf, cellsIn}
@@ -12,6 +12,12 @@ use Rattle.layout.specs.Entries.{cellOf, cellsIn}
 pub record Shifted (l cell : ℕ) (before after : List ℕ) : Type 0 where
   pub cells-are : cellsIn l after ≡ drop 1 (cellsIn l before) ++ cellOf cell ∷ []
   pub same-length : length after ≡ length before
+
+-- All cells from one place to another, within the first l, are empty.
+pub record EmptyTo (from to l : ℕ) (xs : List ℕ) : Type 0 where
+  pub onward : from ≤ to
+  pub within : to ≤ l
+  pub empties : (i : ℕ) → from ≤ i → i < to → getD xs i 0 < 65536
 
 -- A scan of cells with credits stopped at a queue; or it did not, and goes on with the credits left, whatever follows.
 abbrev pub scanEnds : Option ℕ → (ℕ → ℕ) → List Cell → Option ℕ

@@ -10,7 +10,7 @@ ghost use Rattle.layout.specs.Lengths.{cellPlaces, queuePlaces};
 ghost use Rattle.layout.specs.Entries.{countsIn, cellOf, cellsIn};
 ghost use Rattle.layout.specs.Calls.{chosenIn};
 ghost use Rattle.layout.specs.Counts.{CountsAre, TallyOwed};
-ghost use Rattle.lookahead.specs.Says.{Shifted, Scanned, spent};
+ghost use Rattle.lookahead.specs.Says.{Shifted, EmptyTo, Scanned, spent};
 use layout::Chosen;
 use layout::CountArray;
 use layout::HELD;
@@ -36,6 +36,24 @@ pub struct Stopped {
     pub left: CountArray,
 }
 
+// A place up to which the cells from `from` on are empty. They are looked at by two with one test, so that an empty
+// lookahead is passed in half the time; a test for each would be guessed wrongly where empty cells come now and then.
+fn past_empties(cells: &[u32], from: usize, l: usize) -> usize
+    requires { ⌜ (from ≤ l) × (l ≤ length (now cells)) ⌝ }
+    ensures { λ r. ⌜ EmptyTo from r l (now (cells .entry)) ⌝ }
+{
+    let mut i = from;
+    while i + 1 < l {
+        let c = cells[i];
+        let next = cells[i + 1];
+        if HELD as u64 <= (c as u64) + (next as u64) {
+            return i;
+        }
+        i += 2;
+    }
+    i
+}
+
 // Scans the cells from `from` to l, and stops at the first Owed cell that its queue's credits do not cover.
 pub fn scan(cells: &[u32], from: usize, l: usize, credits: CountArray) -> Stopped
     requires { ⌜ (from ≤ l) × (l ≤ length (now cells))
@@ -58,8 +76,10 @@ pub fn scan(cells: &[u32], from: usize, l: usize, credits: CountArray) -> Stoppe
                 break Chosen::Queue(q as u8);
             }
             left[q] = left[q] - owes;
+            i += 1;
+        } else {
+            i = past_empties(cells, i + 1, l);
         }
-        i += 1;
     };
     Stopped {
         found: found,

@@ -1,12 +1,11 @@
 -- `scan` meets its contract: before cell i the scan of the cells from `from` on answers as that of the cells from i on
 -- with the credits left, whatever follows; the measure is the number of cells left.
 use Prim.Native.Nat.{_-_, _<_}
-use mathlib.Core.Logic.{⊎-elim}
 use native.Mathlib.Omega.{arith}
 use borrow.Author.Needs.{needs}
 use Rattle.layout.specs.Lengths.{queuePlaces}
 use Rattle.layout.proofs.Cells.{queueAt, queue-below}
-use Rattle.lookahead.proofs.Turns.{ScannedTo, scan-ends, scan-skips, scan-covers, scan-lacks}
+use Rattle.lookahead.proofs.Turns.{ScannedTo, scan-ends, scan-covers, scan-lacks, scan-empties}
 use Rattle.lookahead.proofs.scan.Statement.{statement}
 use Rattle.lookahead.proofs.scan.Tie as tie
 
@@ -18,9 +17,9 @@ abbrev μ-loop : tie.MeasureT-loop
 
 -- A cell that the scan comes to and that is not empty is of a queue below 64.
 its-queue : (c : tie.Then2 Inv-loop μ-loop)
-    → queueAt (c .before .before .before .before .args .cells .now) (c .before .before .before .loop .i) < queuePlaces
+    → queueAt (c .before .before .before .before .before .args .cells .now) (c .before .before .before .loop .i) < queuePlaces
 its-queue c =
-    let start = c .before .before .before .before in
+    let start = c .before .before .before .before .before in
     queue-below (start .args .cells .now) (start .pre .1) (omega arith) queuePlaces (start .pre .2) (omega arith)
 
 loop-holds : tie.Need-loop-holds Inv-loop μ-loop
@@ -68,25 +67,37 @@ add-i c = search needs
 loop-less : tie.Need-loop-less Inv-loop μ-loop
 loop-less c = search needs
 
--- By the arm that takes what the cell takes of the credits, or past an empty cell.
+-- By the arm that takes what the cell takes of the credits, or past empty cells.
 loop-again : tie.Need-loop-again Inv-loop μ-loop
 loop-again c =
-    let inv = c .before .before .before .loop .inv in
-    let fits = c .before .before .before .before .pre .1 in
-    ⊎-elim
-    (λ w. rw (w .2) (scan-covers fits inv (omega arith)
-    (its-queue (record { before = c .before; if2 = w .0 }))
-    (omega (arith, w .1 .left))))
-    (λ w. rw (w .1) (scan-skips fits inv (omega arith) (omega (arith, w .0 .left))))
-    (c .if2 .came)
+    let cell = c .before in
+    let at = cell .before .before .before in
+    scan-covers (at .before .before .pre .1) (at .loop .inv) (omega arith) (its-queue cell) (omega (arith, c .if3 .left))
+
+add-past-empties : tie.Need-add-past-empties Inv-loop μ-loop
+add-past-empties c = search needs
+
+past-empties-requires : tie.Need-past-empties-requires Inv-loop μ-loop
+past-empties-requires c κs =
+    let at = c .before .before .before in
+    (omega arith, at .before .before .pre .1)
+
+loop-less-2 : tie.Need-loop-less-2 Inv-loop μ-loop
+loop-less-2 c = omega (arith, c .past-empties .ensures .onward, c .past-empties .ensures .within)
+
+loop-again-2 : tie.Need-loop-again-2 Inv-loop μ-loop
+loop-again-2 c =
+    let cell = c .before in
+    let at = cell .before .before .before in
+    scan-empties (at .before .before .pre .1) (at .loop .inv) (omega (arith, cell .if2 .left)) (c .past-empties .ensures)
 
 returns : tie.Need-returns Inv-loop μ-loop
-returns c = scan-ends (c .before .before .pre .1) (c .before .loop .inv) (c .if1 .taken)
+returns c = scan-ends (c .before .before .before .pre .1) (c .before .loop .inv) (c .if1 .taken)
 
 returns-2 : tie.Need-returns-2 Inv-loop μ-loop
 returns-2 c =
     let inv = c .before .before .before .before .loop .inv in
-    let fits = c .before .before .before .before .before .pre .1 in
+    let fits = c .before .before .before .before .before .before .pre .1 in
     scan-lacks fits inv (omega arith) (c .if3 .taken)
 
 pub scan-spec : {M : Type 1} → statement M
@@ -111,5 +122,9 @@ scan-spec =
     add-i
     loop-less
     loop-again
+    add-past-empties
+    past-empties-requires
+    loop-less-2
+    loop-again-2
     returns
     returns-2)

@@ -123,7 +123,7 @@ module _ (x : State) (store : List ℕ) (call : Call) where
     turn-can = j .kept .phase-ok
 
 -- Two answers that agree in each part.
-same-answer : {n m : ℕ} {d e : Option Byte} {w v r p : Option ℕ} {x y : State} {xs ys : List ℕ}
+pub same-answer : {n m : ℕ} {d e : Option Byte} {w v r p : Option ℕ} {x y : State} {xs ys : List ℕ}
     → n ≡ m → d ≡ e → w ≡ v → r ≡ p → x ≡ y → xs ≡ ys
     → _≡_ {A = Answer} (record { number = n; delivered = d; written = w; read = r; state = x; store = xs })
     (record { number = m; delivered = e; written = v; read = p; state = y; store = ys })

@@ -11,22 +11,25 @@ use lib.ListN.{length, replicate, length-replicate}
 use borrow.Author.Tests.{ltb-true, ltb-false}
 use Rattle.model.specs.Sizes.{paper, storeBytes}
 use Rattle.model.specs.State.{State, keeps, SameButMarks}
-use Rattle.model.specs.Slot.{Call, Answer, refusal, refuse, slot}
+use Rattle.model.specs.Slot.{Call, Answer, delivery, queueToWrite, queueToRead, asked, wrote, wroteStore}
+use Rattle.model.specs.Slot.{refusal, accept, refuse, answer, slot}
 use Rattle.model.specs.Lists.{Promised}
 use Rattle.model.proofs.basics.Tests.{by-zero, by-test}
-use Rattle.model.proofs.one_slot.Rules.{Keeps, keeps-facts}
+use Rattle.model.proofs.one_slot.Rules.{Keeps, keeps-facts, keeps-holds}
 use Rattle.model.proofs.one_slot.Accepted.{RefusedOrAccepted, was-refused, was-accepted, outcome}
-use Rattle.model.proofs.one_slot.Kept.{Kept, slot-kept}
-use Rattle.model.proofs.one_slot.Calls.{slot-promised}
+use Rattle.model.proofs.one_slot.Kept.{Kept}
+use Rattle.model.proofs.one_slot.Calls.{promised-form, form-kept, slot-promised}
 use Rattle.layout.specs.declared.Regs.{Regs}
 use Rattle.layout.specs.Views.{Arrays}
-use Rattle.slot_in_place.specs.declared.Advanced.{Advanced}
-use Rattle.slot_checked.specs.Says as checked
+use Rattle.layout.specs.Calls.{chosenIn, deliveryIn}
+use Rattle.layout.specs.declared.Chosen.the-variants.{Nothing}
+use Rattle.layout.specs.declared.Delivery.the-variants.{NoDelivery}
 use Rattle.slot_checked.proofs.Judging.{three, two}
 use Rattle.slot_checked.proofs.Planned.{slot-number}
 use Rattle.buffer.specs.declared.State as code
 use Rattle.buffer.specs.declared.Slotted.{Slotted}
-use Rattle.buffer.specs.Says.{stateOf, arraysOf, JudgeSays, answerOf, SlotSays, StepSays}
+use Rattle.buffer.specs.Says.{stateOf, JudgeSays, answerOf, SlotSays, StepSays}
+use Rattle.buffer.proofs.InTurn.{same-answer}
 
 -- A slot that answers a refusal delivers and moves nothing, and leaves all as it was.
 pub record Untouched (x : State) (store : List ℕ) (a : Answer) : Type 0 where
@@ -106,7 +109,7 @@ pub judged-clear : {x : State} (store : List ℕ) {call : Call} {r : ℕ} → Ju
 judged-clear {x} store {call} says z = sym (slot-number x store call) ∙ sym (says .number-is store refl) ∙ z
 
 -- What answers as the model's slot does, and hands the very record back on a refusal, keeps the slot's promise.
-says-slot : (s : code.State) (store : List ℕ) (call : Call) {r : Slotted} {store′ : List ℕ}
+pub says-slot : (s : code.State) (store : List ℕ) (call : Call) {r : Slotted} {store′ : List ℕ}
     → answerOf r store′ ≡ slot paper (stateOf s) store call → ((r .number ≡ 0 → ⊥) → r .state ≡ s)
     → SlotSays s store call r store′
 says-slot s store call e given = record {
@@ -115,6 +118,9 @@ says-slot s store call e given = record {
 }
 
 -- A slot that is refused before anything moves.
+abbrev notSlotted : code.State → ℕ → Slotted
+notSlotted s n = record { state = s; number = n; delivery = NoDelivery; written = Nothing; read = Nothing }
+
 pub refused-slot : (x : State) (store : List ℕ) (call : Call) {n : ℕ} → n ≡ slot paper x store call .number
     → (n ≡ 0 → ⊥) → refuse n x store ≡ slot paper x store call
 refused-slot x store call {n} e f = go (slot paper x store call) (outcome paper x store call) e
@@ -123,7 +129,39 @@ refused-slot x store call {n} e f = go (slot paper x store call) (outcome paper 
     go a (was-refused m e) z = ap (λ (k : ℕ). refuse k x store) z
     go a (was-accepted e) z = absurd (f z)
 
--- The record that registers and five arrays make, and the answer that a slot on them makes with it.
+pub refused-says : (s : code.State) (store : List ℕ) (call : Call) {n : ℕ}
+    → n ≡ slot paper (stateOf s) store call .number → (n ≡ 0 → ⊥) → SlotSays s store call (notSlotted s n) store
+refused-says s store call e f = says-slot s store call (refused-slot (stateOf s) store call e f) (λ g. refl)
+
+-- A slot that is carried out as the model accepts it.
+pub carried-says : (s : code.State) (store : List ℕ) (call : Call) {r : Slotted} {store′ : List ℕ}
+    → refusal paper (stateOf s) store call ≡ 0 → r .number ≡ 0
+    → stateOf (r .state) ≡ accept (stateOf s) store call .state → deliveryIn (r .delivery) ≡ delivery (stateOf s)
+    → chosenIn (r .written) ≡ queueToWrite (asked (stateOf s) call)
+    → chosenIn (r .read) ≡ queueToRead (wrote (stateOf s) call) → store′ ≡ wroteStore (stateOf s) store call
+    → SlotSays s store call r store′
+carried-says s store call clear zero-is state-is delivery-is written-is read-is store-is =
+    says-slot s store call
+    (same-answer zero-is delivery-is written-is read-is state-is store-is
+    ∙ ap (λ (n : ℕ). answer n (stateOf s) store call) (sym clear))
+    (λ f. absurd (f zero-is))
+
+-- What a slot leaves of a state that keeps the rules can be stepped again.
+pub step-says : {s : code.State} {store : List ℕ} {call : Call} {r : Slotted} {store′ : List ℕ}
+    → SlotSays s store call r store′ → keeps paper (stateOf s) ≡ true → StepSays s store call r store′
+step-says {s} {store} {call} {r} {store′} v kept = record {
+  says = v;
+  kept = keeps-holds paper (stateOf (r .state)) (left .kept);
+  same-sizes = left .same-sizes;
+  same-length = left .same-length;
+}
+  where
+    left : Kept paper (stateOf s) store (answerOf r store′)
+    left =
+        form-kept paper (stateOf s) store call (answerOf r store′) (omega arith) (keeps-facts paper (stateOf s) kept)
+        (promised-form paper (stateOf s) store call (answerOf r store′) (v .promised))
+
+-- The record that registers and five arrays make.
 abbrev pub stateFrom : Regs → Arrays → code.State
 stateFrom regs m = record {
   regs = regs;
@@ -133,31 +171,3 @@ stateFrom regs m = record {
   firsts = m .firsts;
   stored = m .stored;
 }
-
-abbrev slottedFrom : Advanced → Arrays → Slotted
-slottedFrom a m = record {
-  state = stateFrom (a .regs) m;
-  number = a .number;
-  delivery = a .delivery;
-  written = a .written;
-  read = a .read;
-}
-
-module _ {s : code.State} {store : List ℕ} {call : Call} {a : Advanced} {m : Arrays} {store′ : List ℕ}
-    (v : checked.CheckedSays (s .regs) (arraysOf s) store call a m store′) where
-  -- A slot by value, accepted or refused.
-  pub slot-says : SlotSays s store call (slottedFrom a m) store′
-  slot-says = says-slot s store call (v .answer-is) (λ f.
-      ap (λ (regs : Regs). stateFrom regs m) (v .as-given f .0) ∙ ap (stateFrom (s .regs)) (v .as-given f .1))
-
-  -- The same where the rules are kept.
-  pub step-says : keeps paper (stateOf s) ≡ true → StepSays s store call (slottedFrom a m) store′
-  step-says kept = record {
-    says = slot-says;
-    kept = v .kept kept;
-    same-sizes = ap (λ (b : Answer). b .state .sizes) (v .answer-is) ∙ left .same-sizes;
-    same-length = ap (λ (b : Answer). length (b .store)) (v .answer-is) ∙ left .same-length;
-  }
-    where
-      left : Kept paper (stateOf s) store (slot paper (stateOf s) store call)
-      left = slot-kept paper (stateOf s) store call (omega arith) (keeps-facts paper (stateOf s) kept)

@@ -7,6 +7,7 @@ ghost use Rattle.model.specs.Sizes.{paper, storeBytes};
 ghost use Rattle.model.specs.State.{keeps};
 ghost use Rattle.layout.specs.Calls.{callIn};
 ghost use Rattle.layout.specs.Views.{sizesIn};
+ghost use Rattle.lookahead.specs.Says.{Shifted};
 ghost use Rattle.buffer.specs.Demand.{CallsMeet};
 ghost use Rattle.buffer.specs.Says.{stateOf, freshState, MakeSays, JudgeSays, SlotSays, StepSays};
 use layout::Arrival;
@@ -54,6 +55,14 @@ pub struct Slotted {
     pub read: Chosen,
 }
 
+// The oldest of l cells leaves, and `cell` comes in as the youngest: of an array, since no field is lent as a slice.
+fn shift_cells(cells: &mut CellArray, l: usize, cell: u32)
+    requires { ⌜ (1 ≤ l) × (l ≤ length (now cells)) ⌝ }
+    ensures { λ _. ⌜ Shifted l cell (now (cells .entry)) (now (cells .exit)) ⌝ }
+{
+    lookahead::shift(cells, l, cell);
+}
+
 impl State {
     // All cells empty from the start, empty caches and rings, first block 0, phase 0, marks 0.
     fn fresh(queues: usize, block: usize, depth: usize) -> State
@@ -96,50 +105,6 @@ impl State {
         }
     }
 
-    // One slot of a state that keeps the rules, with a store that is long enough: for a caller that knows both, from
-    // `judge`, which answered neither 3 nor 2, or from the slot or step before.
-    pub fn step(self, arrival: Arrival, request: Request, store: &mut [u8]) -> Slotted
-        requires { ⌜ (keeps paper (stateOf self) ≡ true) × (storeBytes (sizesIn (self .regs)) ≤ length (now store)) ⌝ }
-        ensures { λ r. ⌜ StepSays self (now (store .entry)) (callIn arrival request) r (now (store .exit)) ⌝ }
-    {
-        let regs = self.regs;
-        let mut tail = self.tail;
-        let mut head = self.head;
-        let mut cells = self.cells;
-        let mut firsts = self.firsts;
-        let mut stored = self.stored;
-        let a = slot_checked::step(
-            &mut tail,
-            &mut head,
-            &mut cells,
-            &mut firsts,
-            &mut stored,
-            regs,
-            arrival,
-            request,
-            store,
-        );
-        let next = a.regs;
-        let number = a.number;
-        let delivery = a.delivery;
-        let written = a.written;
-        let read = a.read;
-        Slotted {
-            state: State {
-                regs: next,
-                tail: tail,
-                head: head,
-                cells: cells,
-                firsts: firsts,
-                stored: stored,
-            },
-            number: number,
-            delivery: delivery,
-            written: written,
-            read: read,
-        }
-    }
-
     // The number that a slot answers, of any state and with any store of so many bytes. Nothing changes.
     pub fn judge(self, arrival: Arrival, request: Request, bytes: usize) -> u8
         ensures { λ r. ⌜ JudgeSays (stateOf self) bytes (callIn arrival request) r ⌝ }
@@ -158,47 +123,96 @@ impl State {
         plan.number
     }
 
-    // One slot, of any state and any store: 3 and 2 are judged first, and then the rest by number. On a refusal the
-    // very record comes back.
-    pub fn slot(self, arrival: Arrival, request: Request, store: &mut [u8]) -> Slotted
+    // One slot, of any state and any store: judged as a whole, and then the five steps, each on the one field that it
+    // changes. On a refusal the very record comes back. It is one method, since every call of a method with a state in
+    // it costs a copy of 20 KB.
+    pub fn slot(mut self, arrival: Arrival, request: Request, store: &mut [u8]) -> Slotted
         ensures { λ r. ⌜ SlotSays self (now (store .entry)) (callIn arrival request) r (now (store .exit)) ⌝ }
     {
         let regs = self.regs;
-        let mut tail = self.tail;
-        let mut head = self.head;
-        let mut cells = self.cells;
-        let mut firsts = self.firsts;
-        let mut stored = self.stored;
-        let a = slot_checked::slot(
-            &mut tail,
-            &mut head,
-            &mut cells,
-            &mut firsts,
-            &mut stored,
+        let plan = slot_checked::plan(
+            &self.tail,
+            &self.head,
+            &self.cells,
+            &self.firsts,
+            &self.stored,
             regs,
             arrival,
             request,
+            store.len(),
+        );
+        let number = plan.number;
+        if number != 0 {
+            return Slotted {
+                state: self,
+                number: number,
+                delivery: Delivery::NoDelivery,
+                written: Chosen::Nothing,
+                read: Chosen::Nothing,
+            };
+        }
+        let owes = plan.owes;
+        let written = plan.written;
+        let fetched = plan.read;
+        // 1. The oldest cell leaves.
+        let cell = self.cells[0];
+        let gave = slot_steps::deliver(&mut self.head, regs.head_fill, cell);
+        // 2. The arriving byte joins the tail.
+        let joined = slot_steps::arrive(&mut self.tail, regs.tail_fill, arrival);
+        // 3. The request takes the youngest cell.
+        let asked = slot_steps::ask(&mut self.tail, joined, owes, request);
+        shift_cells(
+            &mut self.cells,
+            regs.queues * (regs.block - 1) + 1,
+            asked.cell,
+        );
+        // 4. The two moves, where a queue is chosen.
+        let mut firsts = self.firsts;
+        let mut stored = self.stored;
+        let tail_fill = slot_steps::write(
+            &mut self.tail,
+            &firsts,
+            &mut stored,
+            regs,
+            asked.fill,
+            written,
             store,
         );
-        let left = a.regs;
-        let judged = a.number;
-        let delivery = a.delivery;
-        let written = a.written;
-        let fetched = a.read;
+        let head_fill = slot_steps::read(
+            &mut self.head,
+            &mut firsts,
+            &mut stored,
+            regs,
+            gave.fill,
+            fetched,
+            store,
+        );
+        self.firsts = firsts;
+        self.stored = stored;
+        // 5. The phase. The marks rise with the fills.
+        self.regs.phase = slot_steps::next_phase(regs.phase, regs.block);
+        self.regs.tail_fill = tail_fill;
+        self.regs.head_fill = head_fill;
+        self.regs.tail_mark = minmax::larger(regs.tail_mark, joined);
+        self.regs.head_mark = minmax::larger(regs.head_mark, head_fill);
+        let delivery = gave.delivery;
         Slotted {
-            state: State {
-                regs: left,
-                tail: tail,
-                head: head,
-                cells: cells,
-                firsts: firsts,
-                stored: stored,
-            },
-            number: judged,
+            state: self,
+            number: 0,
             delivery: delivery,
             written: written,
             read: fetched,
         }
+    }
+
+    // One slot of a state that keeps the rules, with a store that is long enough: what it leaves can be stepped again. A
+    // caller knows both from `judge`, which answered neither 3 nor 2, or from the slot or step before. Rule 3 is judged
+    // all the same: that is a tenth of a slot by value, and its copies are the rest.
+    pub fn step(self, arrival: Arrival, request: Request, store: &mut [u8]) -> Slotted
+        requires { ⌜ (keeps paper (stateOf self) ≡ true) × (storeBytes (sizesIn (self .regs)) ≤ length (now store)) ⌝ }
+        ensures { λ r. ⌜ StepSays self (now (store .entry)) (callIn arrival request) r (now (store .exit)) ⌝ }
+    {
+        self.slot(arrival, request, store)
     }
 }
 

@@ -4,18 +4,15 @@
 // answer first. After an answer of 0 the steps in turn, told by the choices of crates/buffer_choices, find what they ask,
 // and are the slot: `buffer_choices::steps_in_turn`.
 ghost use mathlib.Core.Path.{_≡_};
-ghost use Prim.Native.Nat.{_+_, _-_, _*_, _<_, _≤_};
-ghost use lib.ListN.{length};
+ghost use Prim.Native.Nat.{_<_};
 ghost use Rattle.model.specs.Slot.{delivery, afterArrival, afterRequest, afterWrite, storeWritten, afterRead};
 ghost use Rattle.model.specs.Slot.{afterPhase};
 ghost use Rattle.layout.specs.Calls.{chosenIn, arrivalIn, requestIn, deliveryIn};
-ghost use Rattle.lookahead.specs.Says.{Shifted};
 ghost use Rattle.buffer.specs.Says.{stateOf};
 ghost use Rattle.buffer.specs.OneStep.{opened, closed, CachesFit, DeliverAsks, AskAsks, WriteAsks, ReadAsks};
 use crate::EMPTY;
 use crate::State;
 use layout::Arrival;
-use layout::CellArray;
 use layout::Chosen;
 use layout::Delivery;
 use layout::Request;
@@ -24,14 +21,6 @@ use layout::Request;
 pub struct Delivered {
     pub state: State,
     pub delivery: Delivery,
-}
-
-// The oldest of l cells leaves, and an empty one comes in as the youngest.
-fn shift_in_empty(cells: &mut CellArray, l: usize)
-    requires { ⌜ (1 ≤ l) × (l ≤ length (now cells)) ⌝ }
-    ensures { λ _. ⌜ Shifted l 0 (now (cells .entry)) (now (cells .exit)) ⌝ }
-{
-    lookahead::shift(cells, l, EMPTY);
 }
 
 impl State {
@@ -45,7 +34,7 @@ impl State {
         let fill = self.regs.head_fill;
         let gave = slot_steps::deliver(&mut self.head, fill, cell);
         let l = self.regs.queues * (self.regs.block - 1) + 1;
-        shift_in_empty(&mut self.cells, l);
+        crate::shift_cells(&mut self.cells, l, EMPTY);
         self.regs.head_fill = gave.fill;
         let delivery = gave.delivery;
         Delivered {

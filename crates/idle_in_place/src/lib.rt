@@ -13,14 +13,12 @@ ghost use Rattle.layout.specs.Lent.{given, found, left, countsGiven, countsLeft
 ghost use Rattle.layout.specs.Views.{sizesIn, stateIn};
 ghost use Rattle.slot_in_place.specs.Says.{Ready};
 ghost use Rattle.idle_in_place.specs.Says.{StretchSays, PassSays};
-use layout::Arrival;
 use layout::CellArray;
 use layout::Chosen;
 use layout::CountArray;
 use layout::Delivery;
 use layout::HeadArray;
 use layout::Regs;
-use layout::Request;
 use layout::RingArray;
 use layout::TailArray;
 
@@ -118,7 +116,9 @@ pub fn pass(
         };
     }
     let passed = count + 1;
-    let slot = slot_in_place::advance(
+    let calls = [0u32; 1];
+    let mut answers = [0u64; 1];
+    let slot = run_in_place::run_calls(
         tail,
         head,
         cells,
@@ -128,8 +128,8 @@ pub fn pass(
         heads,
         owing,
         turned,
-        Arrival::NoArrival,
-        Request::NoRequest,
+        &calls,
+        &mut answers,
         store,
     );
     let next = slot.regs;

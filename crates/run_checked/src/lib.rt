@@ -61,7 +61,7 @@ pub fn run(
     let mut tails = judged.tails;
     let mut heads = judged.heads;
     let mut owing = judged.owing;
-    run_in_place::run_calls(
+    let ran = run_in_place::run_calls(
         tail,
         head,
         cells,
@@ -74,7 +74,8 @@ pub fn run(
         &calls[..n],
         answers,
         store,
-    )
+    );
+    ran.regs
 }
 
 // One stretch of at most n idle slots, of any state and any store. Where the state breaks the rules or the store is too

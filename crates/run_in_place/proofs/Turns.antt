@@ -25,7 +25,23 @@ use Rattle.slot_in_place.specs.declared.Advanced.{Advanced}
 use Rattle.slot_in_place.specs.Says.{Ready, answerIn, AdvanceSays}
 use Rattle.run_words.specs.Words.{callOf, answerWord}
 use Rattle.run_in_place.specs.declared.Called.{Called}
-use Rattle.run_in_place.specs.Says.{wordOf, CalledSays, RunInPlaceSays}
+use Rattle.run_in_place.specs.Says.{wordOf, AnswerOfCall, OneCallSays, CalledSays, RunInPlaceSays}
+
+-- The answer of a call as that of a slot in place.
+abbrev pub advancedIn : Called → Advanced
+advancedIn r = record {
+  regs = r .regs;
+  number = r .number;
+  delivery = r .delivery;
+  written = r .written;
+  read = r .read;
+}
+
+same-answer : {n m : ℕ} {d e : Option Byte} {w v r p : Option ℕ} {x y : State} {xs ys : List ℕ}
+    → n ≡ m → d ≡ e → w ≡ v → r ≡ p → x ≡ y → xs ≡ ys
+    → _≡_ {A = Answer} (record { number = n; delivered = d; written = w; read = r; state = x; store = xs })
+    (record { number = m; delivered = e; written = v; read = p; state = y; store = ys })
+same-answer a b c d e f = rw (a, b, c, d, e, f)
 
 -- The run before call i.
 pub record RunTo (i : ℕ) (x : State) (store : List ℕ) (calls : List Call) (before after : List ℕ) (state : State)
@@ -134,10 +150,17 @@ pub called : {x : State} {store : List ℕ} (call : Call) (arrival : Arrival) (r
     {m : Arrays} {counts : ByQueue} {store′ : List ℕ} (r : Called)
     → AdvanceSays x store (callIn arrival request) a m counts store′
     → arrivalIn arrival ≡ call .arrival → requestIn request ≡ call .request
-    → r .regs ≡ a .regs
+    → r .regs ≡ a .regs → r .number ≡ a .number → r .delivery ≡ a .delivery → r .written ≡ a .written
+    → r .read ≡ a .read
     → r .word ≡ answerWord (a .number) (deliveryIn (a .delivery)) (chosenIn (a .written)) (chosenIn (a .read))
     → CalledSays x store call r m counts store′
-called {x} {store} call arrival request {a} {m} {counts} {store′} r s ea er es ew = record {
+called {x} {store} call arrival request {a} {m} {counts} {store′} r s ea er es en ed ev eb ew = record {
+  answer-is = record {
+    number-is = en ∙ ap (λ (b : Answer). b .number) answer;
+    delivered-is = ap deliveryIn ed ∙ ap (λ (b : Answer). b .delivered) answer;
+    written-is = ap chosenIn ev ∙ ap (λ (b : Answer). b .written) answer;
+    read-is = ap chosenIn eb ∙ ap (λ (b : Answer). b .read) answer;
+  };
   word-is = ew ∙ ap (λ (b : Answer). answerWord (b .number) (b .delivered) (b .written) (b .read)) answer;
   state-is = ap (λ (n : Regs). stateIn n m) es ∙ ap (λ (b : Answer). b .state) answer;
   store-is = ap (λ (b : Answer). b .store) answer;
@@ -150,6 +173,50 @@ called {x} {store} call arrival request {a} {m} {counts} {store′} r s ea er es
 
     answer : answerIn a m store′ ≡ slot paper x store call
     answer = s .answer-is ∙ ap (slot paper x store) same-call
+
+-- The first slot of a run, as long as no other has come.
+pub record FirstTo (i : ℕ) (x : State) (store : List ℕ) (calls : List Call) (d : Call) (r : Called) : Type 0 where
+  pub first : i ≡ 1 → AnswerOfCall x store (getD calls 0 d) r
+
+pub no-first : {x : State} {store : List ℕ} {calls : List Call} {d : Call} {r : Called} → FirstTo 0 x store calls d r
+no-first = record { first = λ e. absurd (omega (arith, e)) }
+
+pub first-turn : {i : ℕ} {x : State} {store : List ℕ} {calls : List Call} {before after : List ℕ} {state : State}
+    {store′ : List ℕ} → RunTo i x store calls before after state store′ → (d : Call) {call : Call}
+    → getD calls i d ≡ call → {r : Called} → AnswerOfCall state store′ call r → FirstTo (i + 1) x store calls d r
+first-turn {i} {x} {store} {calls} {before} {after} {state} {store′} w d {call} is-call {r} a = record {
+  first = λ e. at-zero (omega (arith, e));
+}
+  where
+    at-zero : i ≡ 0 → AnswerOfCall x store (getD calls 0 d) r
+    at-zero z =
+        subst (λ (y : State). AnswerOfCall y store (getD calls 0 d) r)
+        (w .state-is ∙ ap (λ (n : ℕ). lastState paper x store (take n calls)) z)
+        (subst (λ (t : List ℕ). AnswerOfCall state t (getD calls 0 d) r)
+        (w .store-is ∙ ap (λ (n : ℕ). lastStore paper x store (take n calls)) z)
+        (subst (λ (c : Call). AnswerOfCall state store′ c r)
+        (sym is-call ∙ ap (λ (n : ℕ). getD calls n d) z) a))
+
+pub first-is-all : {i : ℕ} {x : State} {store : List ℕ} {calls : List Call} {before after : List ℕ} {state : State}
+    {store′ : List ℕ} {d : Call} {r : Called} → RunTo i x store calls before after state store′
+    → FirstTo i x store calls d r → length calls ≤ i → OneCallSays x store calls r
+first-is-all {i} {x} {store} {calls} {d = d} {r = r} w f last call e =
+    let one : length calls ≡ 1 = ap length e in
+    subst (λ (c : Call). AnswerOfCall x store c r) (ap (λ (l : List Call). getD l 0 d) e)
+    (f .first (omega (arith, one, last, w .within)))
+
+-- A run of one call is its slot.
+pub ran-one : {x : State} {store : List ℕ} (call : Call) {before after : List ℕ} {r : Called} {m : Arrays}
+    {counts : ByQueue} {store′ : List ℕ} → RunInPlaceSays x store (call ∷ []) before after (stateIn (r .regs) m) store′
+    → Ready (r .regs) m counts store′ → OneCallSays x store (call ∷ []) r
+    → AdvanceSays x store call (advancedIn r) m counts store′
+ran-one {x} {store} call {r = r} {m} {counts} {store′} ran ready one =
+    let a = one call refl in
+    record {
+      answer-is = same-answer (a .number-is) (a .delivered-is) (a .written-is) (a .read-is) (ran .state-is)
+          (ran .store-is);
+      ready = ready;
+    }
 
 -- A slot keeps the store's length.
 pub store-kept : {regs : Regs} {m : Arrays} {counts : ByQueue} {store : List ℕ} {call : Call} {r : Called} {m′ : Arrays}

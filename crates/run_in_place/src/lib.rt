@@ -9,7 +9,7 @@ ghost use Rattle.layout.specs.Views.{stateIn};
 ghost use Rattle.slot_in_place.specs.Says.{Ready};
 ghost use Rattle.layout.specs.Calls.{chosenIn, deliveryIn};
 ghost use Rattle.run_words.specs.Words.{callOf, byteWord, queueWord};
-ghost use Rattle.run_in_place.specs.Says.{CalledSays, RunInPlaceSays};
+ghost use Rattle.run_in_place.specs.Says.{CalledSays, RunInPlaceSays, OneCallSays};
 use layout::CellArray;
 use layout::Chosen;
 use layout::CountArray;
@@ -20,9 +20,13 @@ use layout::RingArray;
 use layout::TailArray;
 use slot_in_place::Advanced;
 
-// Where a slot leaves the registers, and its answer as one number.
+// Where a slot of a run leaves the registers, its answer, and that answer as one number.
 pub struct Called {
     pub regs: Regs,
+    pub number: u8,
+    pub delivery: Delivery,
+    pub written: Chosen,
+    pub read: Chosen,
     pub word: u64,
 }
 
@@ -100,13 +104,21 @@ pub fn answer_call(
     let number = a.number;
     let word = run_words::answer_of_bits(number, delivered_bits(a), written_bits(a), read_bits(a));
     let next = a.regs;
+    let delivery = a.delivery;
+    let written = a.written;
+    let read = a.read;
     Called {
         regs: next,
+        number: number,
+        delivery: delivery,
+        written: written,
+        read: read,
         word: word,
     }
 }
 
-// The slots of all calls, in order.
+// The slots of all calls, in order, and what the last of them answered. It is the one place from which a slot is called in
+// place, so that the compiler puts the slot into its loop; whoever wants one slot runs one call.
 pub fn run_calls(
     tail: &mut TailArray,
     head: &mut HeadArray,
@@ -120,22 +132,32 @@ pub fn run_calls(
     calls: &[u32],
     answers: &mut [u64],
     store: &mut [u8],
-) -> Regs
+) -> Called
     requires { ⌜ Ready regs (given tail head cells firsts stored)
         (countsGiven tails heads owing) (now store)
         × (length (now calls) ≤ length (now answers)) ⌝ }
     ensures { λ r. ⌜ RunInPlaceSays
         (stateIn regs (found tail head cells firsts stored))
         (now (store .entry)) (map callOf (now (calls .entry))) (now (answers .entry)) (now (answers .exit))
-        (stateIn r (left tail head cells firsts stored))
+        (stateIn (r .regs) (left tail head cells firsts stored))
         (now (store .exit))
-        × Ready r (left tail head cells firsts stored)
-        (countsLeft tails heads owing) (now (store .exit)) ⌝ }
+        × Ready (r .regs) (left tail head cells firsts stored)
+        (countsLeft tails heads owing) (now (store .exit))
+        × OneCallSays (stateIn regs (found tail head cells firsts stored)) (now (store .entry))
+        (map callOf (now (calls .entry))) r ⌝ }
 {
-    let mut next = regs;
+    let mut last = Called {
+        regs: regs,
+        number: 0,
+        delivery: Delivery::NoDelivery,
+        written: Chosen::Nothing,
+        read: Chosen::Nothing,
+        word: 0,
+    };
     let mut i: usize = 0;
     while i < calls.len() {
-        let called = answer_call(
+        let next = last.regs;
+        last = answer_call(
             tail,
             head,
             cells,
@@ -148,9 +170,8 @@ pub fn run_calls(
             calls[i],
             store,
         );
-        next = called.regs;
-        answers[i] = called.word;
+        answers[i] = last.word;
         i += 1;
     }
-    next
+    last
 }

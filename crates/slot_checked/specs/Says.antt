@@ -1,4 +1,4 @@
--- What one slot on lent arrays promises, whatever the arrays and the store hold, by the model's own slot.
+-- What is decided of a slot, whatever the state and the store are, by the model's own slot.
 use mathlib.Core.Path.{_≡_}
 use mathlib.Core.Bool.{Bool, true, not}
 use mathlib.Core.List.{List, [], _∷_}
@@ -9,14 +9,9 @@ use Rattle.model.specs.Basics.{when, firstRefusal}
 use Rattle.model.specs.Sizes.{Sizes, paper, storeBytes}
 use Rattle.model.specs.State.{State, keeps}
 use Rattle.model.specs.Slot.{Call, refuse, slot}
-use Rattle.layout.specs.declared.Chosen.the-variants.{Nothing}
 use Rattle.layout.specs.Calls.{chosenIn}
-use Rattle.layout.specs.declared.Regs.{Regs}
-use Rattle.layout.specs.declared.Delivery.the-variants.{NoDelivery}
-use Rattle.layout.specs.Views.{Arrays, Long, sizesIn, stateIn}
 use Rattle.slot_plan.specs.declared.Plan.{Plan}
-use Rattle.slot_in_place.specs.declared.Advanced.{Advanced}
-use Rattle.slot_in_place.specs.Says.{Decided, answerIn, AsGiven}
+use Rattle.slot_in_place.specs.Says.{Decided}
 
 -- 3 and 2, in this order, by whether the rules are kept.
 abbrev pub stateNumber : Bool → Sizes → ℕ → ℕ
@@ -34,21 +29,3 @@ pub record PlanCheckedSays (x : State) (bytes : ℕ) (call : Call) (r : Plan) : 
   pub number-is : (store : List ℕ) → length store ≡ bytes → r .number ≡ slot paper x store call .number
   pub decided : r .number ≡ 0 → (store : List ℕ) → length store ≡ bytes
       → Decided x store call (r .owes) (chosenIn (r .written)) (chosenIn (r .read))
-
--- A slot in arrays that answers a refusal.
-abbrev pub refusedAt : Regs → ℕ → Advanced
-refusedAt regs n = record { regs = regs; number = n; delivery = NoDelivery; written = Nothing; read = Nothing }
-
--- A state in arrays of which 3 and 2 are ruled out.
-pub record RulesHold (regs : Regs) (m : Arrays) (store : List ℕ) : Type 0 where
-  pub long : Long m
-  pub kept : keeps paper (stateIn regs m) ≡ true
-  pub store-long : storeBytes (sizesIn regs) ≤ length store
-
--- One slot, exactly as the model has it, marks included. On a refusal the registers and the arrays are as they
--- came, and what a slot leaves of a state that keeps the rules keeps them.
-pub record CheckedSays (regs : Regs) (m : Arrays) (store : List ℕ) (call : Call) (r : Advanced) (m′ : Arrays)
-    (store′ : List ℕ) : Type 0 where
-  pub answer-is : answerIn r m′ store′ ≡ slot paper (stateIn regs m) store call
-  pub as-given : AsGiven regs m r m′
-  pub kept : keeps paper (stateIn regs m) ≡ true → keeps paper (stateIn (r .regs) m′) ≡ true

@@ -3,8 +3,9 @@ use mathlib.Core.Path.{_≡_, refl}
 use native.Mathlib.Omega.{arith}
 use borrow.Author.Needs.{needs}
 use Rattle.slot_in_place.proofs.Standing as standing
+use Rattle.run_in_place.proofs.Turns.{advancedIn}
 use Rattle.idle_in_place.proofs.Passing.{quiet-passed, quiet-ready, quiet-counted, quiet-most}
-use Rattle.idle_in_place.proofs.Stretches.{pass-is-quiet, pass-once-more}
+use Rattle.idle_in_place.proofs.Stretches.{pass-is-quiet, pass-once-more, ran-idle}
 use Rattle.idle_in_place.proofs.pass.Statement.{statement}
 use Rattle.idle_in_place.proofs.pass.Tie as tie
 
@@ -12,8 +13,8 @@ use Rattle.idle_in_place.proofs.pass.Tie as tie
 abbrev start : tie.After-pass-quiet → tie.Start
 start c = c .before .before .before .before .before
 
-abbrev not-all-quiet : tie.After-advance-arg9 → tie.Else1
-not-all-quiet c = c .before .before .before .before .before .before .before .before .before
+abbrev not-all-quiet : tie.After-run-calls-arg9 → tie.Else1
+not-all-quiet c = c .before .before .before .before .before .before .before .before .before .before .before
 
 pass-quiet-requires : tie.Need-pass-quiet-requires
 pass-quiet-requires c κs =
@@ -42,23 +43,32 @@ add-passed c =
     let s = start quiet in
     omega (arith, quiet-most (s .pre) (quiet .pass-quiet .ensures), c .if1 .left, s .fits .n)
 
-advance-requires : tie.Need-advance-requires
-advance-requires c κs =
+slice-aggregate-run-calls : tie.Need-slice-aggregate-run-calls
+slice-aggregate-run-calls c = search needs
+
+slice-aggregate-run-calls-2 : tie.Need-slice-aggregate-run-calls-2
+slice-aggregate-run-calls-2 c = search needs
+
+run-calls-requires : tie.Need-run-calls-requires
+run-calls-requires c κs =
     let quiet = not-all-quiet c .before in
-    quiet-ready (start quiet .pre) (quiet .pass-quiet .ensures)
+    (quiet-ready (start quiet .pre) (quiet .pass-quiet .ensures), omega arith)
 
 same-length : tie.Need-same-length
 same-length c = search needs
 
 returns-2 : tie.Need-returns-2
 returns-2 c =
-    let advanced = c .before .before .before in
-    let more = not-all-quiet (advanced .before) in
+    let ran = c .before .before .before .before in
+    let more = not-all-quiet (ran .before) in
     let quiet = more .before in
     let ready = start quiet .pre in
     let says = quiet .pass-quiet .ensures in
-    pass-once-more {a = advanced .advance .result} (omega (arith, quiet-most ready says, more .if1 .left))
-    (quiet-counted ready says) (quiet-passed ready says .slots-pass) (advanced .advance .ensures .0)
+    let slot = ran .run-calls .ensures in
+    pass-once-more {a = advancedIn (ran .run-calls .result)} (omega (arith, quiet-most ready says, more .if1 .left))
+    (quiet-counted ready says) (quiet-passed ready says .slots-pass)
+    (ran-idle (slot .0) (slot .1) (slot .2))
 
 pub pass-spec : {M : Type 1} → statement M
-pass-spec = tie.close (tie.spec pass-quiet-requires returns add-passed advance-requires same-length returns-2)
+pass-spec = tie.close (tie.spec pass-quiet-requires returns add-passed slice-aggregate-run-calls slice-aggregate-run-calls-2 run-calls-requires
+    same-length returns-2)

@@ -82,7 +82,7 @@ same-length-3 c = search needs
 
 returns-2 : tie.Need-returns-2
 returns-2 c =
-    let ran = c .before .before .before .before in
+    let ran = c .before .before .before .before .before in
     let most = counted (not-refused (ran .before .before .before) .before .before) in
     let a = start most .args in
     let says = ran .run-calls .ensures in

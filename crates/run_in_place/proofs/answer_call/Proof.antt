@@ -48,7 +48,8 @@ returns c =
     let request = request-read a in
     let arrival = request .before in
     called (callOf (arrival .before .before .args .call)) (arrival .arrival-in .result) (request .request-in .result) _
-    (a .advance .ensures .0) (arrival .arrival-in .ensures) (request .request-in .ensures) refl
+    (a .advance .ensures .0) (arrival .arrival-in .ensures) (request .request-in .ensures) refl refl refl refl
+    refl
     (omega (
       arith,
       word .answer-of-bits .ensures,

@@ -10,26 +10,29 @@ use Rattle.layout.specs.Counts.{byQueue}
 use Rattle.layout.specs.Views.{arrays, stateIn}
 use Rattle.slot_in_place.specs.Says.{Ready}
 use Rattle.run_words.specs.Words.{callOf}
-use Rattle.run_in_place.proofs.Turns.{RunTo, run-starts, run-turn, run-ends, call-at, store-kept}
+use Rattle.run_in_place.proofs.Turns.{RunTo, run-starts, run-turn, run-ends, call-at, FirstTo, no-first}
+use Rattle.run_in_place.proofs.Turns.{first-turn, first-is-all, store-kept}
 use Rattle.run_in_place.proofs.run_calls.Statement.{statement}
 use Rattle.run_in_place.proofs.run_calls.Tie as tie
 
 abbrev Inv-loop : tie.InvT-loop
-Inv-loop tail₀ head₀ cells₀ firsts₀ stored₀ tails₀ heads₀ owing₀ calls answers₀ store₀ next₀ i₀
-    tail head cells firsts stored tails heads owing answers store next i =
-    Ready next (arrays tail head cells firsts stored) (byQueue tails heads owing) store
-    × RunTo i (stateIn next₀ (arrays tail₀ head₀ cells₀ firsts₀ stored₀)) store₀ (map callOf calls) answers₀ answers
-    (stateIn next (arrays tail head cells firsts stored)) store
+Inv-loop tail₀ head₀ cells₀ firsts₀ stored₀ tails₀ heads₀ owing₀ calls answers₀ store₀ last₀ i₀
+    tail head cells firsts stored tails heads owing answers store last i =
+    Ready (last .regs) (arrays tail head cells firsts stored) (byQueue tails heads owing) store
+    × RunTo i (stateIn (last₀ .regs) (arrays tail₀ head₀ cells₀ firsts₀ stored₀)) store₀ (map callOf calls) answers₀ answers
+    (stateIn (last .regs) (arrays tail head cells firsts stored)) store
     × (length answers ≡ length answers₀)
     × (length store ≡ length store₀)
+    × FirstTo i (stateIn (last₀ .regs) (arrays tail₀ head₀ cells₀ firsts₀ stored₀)) store₀ (map callOf calls) (callOf 0)
+    last
 
 abbrev μ-loop : tie.MeasureT-loop
-μ-loop tail₀ head₀ cells₀ firsts₀ stored₀ tails₀ heads₀ owing₀ calls answers₀ store₀ next₀ i₀
-    tail head cells firsts stored tails heads owing answers store next i =
+μ-loop tail₀ head₀ cells₀ firsts₀ stored₀ tails₀ heads₀ owing₀ calls answers₀ store₀ last₀ i₀
+    tail head cells firsts stored tails heads owing answers store last i =
     length calls - i
 
 loop-holds : tie.Need-loop-holds Inv-loop μ-loop
-loop-holds c = let s = c .before .before .before in (s .pre .0, run-starts _ _ _ _, refl, refl)
+loop-holds c = let s = c .before .before .before in (s .pre .0, run-starts _ _ _ _, refl, refl, no-first)
 
 mul-answer-call : tie.Need-mul-answer-call Inv-loop μ-loop
 mul-answer-call c = search needs
@@ -38,11 +41,11 @@ shared-slice-read-answer-call : tie.Need-shared-slice-read-answer-call Inv-loop 
 shared-slice-read-answer-call c = search needs
 
 -- The way back through one turn of the loop.
-abbrev answered : tie.After-next Inv-loop μ-loop → tie.After-answer-call Inv-loop μ-loop
-answered c = c .before .before .before
+abbrev answered : tie.After-slice-known3 Inv-loop μ-loop → tie.After-answer-call Inv-loop μ-loop
+answered c = c .before .before
 
 abbrev tested : tie.After-answer-call-arg9 Inv-loop μ-loop → tie.In-loop Inv-loop μ-loop
-tested c = c .before .before .before .before .before .before .before .before .before .before
+tested c = c .before .before .before .before .before .before .before .before .before .before .before
 
 abbrev start : tie.In-loop Inv-loop μ-loop → tie.Start Inv-loop μ-loop
 start c = c .before .before .before .before .before
@@ -87,6 +90,7 @@ loop-again c =
           (omega (arith, turn .loop-test .taken, all)) (omega (arith, s .pre .1, all)) says,
       length-set (loop .answers) (loop .i) _ ∙ loop .inv .2,
       store-kept (loop .inv .0) says ∙ loop .inv .3,
+      first-turn (loop .inv .1) (callOf 0) (call-at (s .args .calls .now) (loop .i)) (says .answer-is),
     )
 
 same-length : tie.Need-same-length Inv-loop μ-loop
@@ -97,9 +101,12 @@ same-length-2 c = c .before .loop .inv .3
 
 returns : tie.Need-returns Inv-loop μ-loop
 returns c =
-    let s = c .before .before .before .before .before in (
-      run-ends (c .before .loop .inv .1) (omega (arith, length-map (s .args .calls .now) callOf, c .loop-test .left)),
-      c .before .loop .inv .0,
+    let s = c .before .before .before .before .before in
+    let inv = c .before .loop .inv in
+    let all = length-map (s .args .calls .now) callOf in (
+      run-ends (inv .1) (omega (arith, all, c .loop-test .left)),
+      inv .0,
+      first-is-all (inv .1) (inv .4) (omega (arith, all, c .loop-test .left)),
     )
 
 pub run-calls-spec : {M : Type 1} → statement M

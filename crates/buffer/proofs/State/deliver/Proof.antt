@@ -25,8 +25,8 @@ mul-l c = let start = c .before .before .before in omega (arith, limits (start .
 add-l : tie.Need-add-l
 add-l c = let start = c .before .before .before in omega (arith, limits (start .args .t1) (start .pre .fits) .span-high)
 
-shift-in-empty-requires : tie.Need-shift-in-empty-requires
-shift-in-empty-requires c κs =
+shift-cells-requires : tie.Need-shift-cells-requires
+shift-cells-requires c κs =
     let start = c .before .before .before .before in
     (omega arith, omega (arith, cells-in (start .args .t1) (start .pre .fits) (search needs)))
 
@@ -36,7 +36,7 @@ returns c =
     let s = start .args .t1 in
     let fits = start .pre .fits in
     let gave = c .before .before .before .deliver in
-    let shifted = c .before .shift-in-empty .ensures in (
+    let shifted = c .before .shift-cells .ensures in (
       delivered-state s fits _ _ _ (search needs) (gave .ensures) shifted,
       delivered s fits _ _ _ (search needs) (gave .ensures) shifted,
     )
@@ -44,4 +44,4 @@ returns c =
 pub deliver-spec : {M : Type 1} → statement M
 deliver-spec =
     tie.close
-    (tie.spec element-copy-out-cell deliver-requires sub-l mul-l add-l shift-in-empty-requires returns)
+    (tie.spec element-copy-out-cell deliver-requires sub-l mul-l add-l shift-cells-requires returns)

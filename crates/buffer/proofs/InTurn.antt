@@ -11,7 +11,7 @@ use Rattle.model.specs.Sizes.{paper, tailSize, headSize}
 use Rattle.model.specs.State.{Byte, empty, State, tailBytes, blocks}
 use Rattle.model.specs.Slot.{Call, Answer, oldestCell, delivery, afterDelivery, afterArrival, isOwed, afterRequest}
 use Rattle.model.specs.Slot.{queueToWrite, afterWrite, storeWritten, queueToRead, afterRead, afterPhase, joined, asked}
-use Rattle.model.specs.Slot.{wrote, wroteStore, refilled, refusal, answer, slot}
+use Rattle.model.specs.Slot.{wrote, wroteStore, refilled, refusal, accept, answer, slot}
 use Rattle.model.proofs.basics.Limits.{within-limits}
 use Rattle.model.proofs.basics.Rings.{fewer-blocks}
 use Rattle.model.proofs.one_slot.Rules.{Rules}
@@ -19,6 +19,7 @@ use Rattle.model.proofs.one_slot.StepsKeepRules.{length-tail-left}
 use Rattle.model.proofs.one_slot.Accepted.{Judged, Accepted}
 use Rattle.model.proofs.one_slot.Kept.{length-head-without, length-tail-written, tail-joined, write-taken, read-taken}
 use Rattle.model.proofs.one_slot.Kept.{rules-3, rules-written, still-long}
+use Rattle.model.proofs.one_slot.Calls.{answer-is}
 use Rattle.model.proofs.delay.IdealSlot.{held-before}
 use Rattle.layout.proofs.States.{same-state}
 use Rattle.buffer.specs.OneStep.{opened, closed, CachesFit, DeliverAsks, AskAsks, WriteAsks, ReadAsks}
@@ -122,13 +123,6 @@ module _ (x : State) (store : List ℕ) (call : Call) where
     pub turn-can : refilled x store call .phase < refilled x store call .sizes .b
     turn-can = j .kept .phase-ok
 
--- Two answers that agree in each part.
-pub same-answer : {n m : ℕ} {d e : Option Byte} {w v r p : Option ℕ} {x y : State} {xs ys : List ℕ}
-    → n ≡ m → d ≡ e → w ≡ v → r ≡ p → x ≡ y → xs ≡ ys
-    → _≡_ {A = Answer} (record { number = n; delivered = d; written = w; read = r; state = x; store = xs })
-    (record { number = m; delivered = e; written = v; read = p; state = y; store = ys })
-same-answer a b c d e f = rw (a, b, c, d, e, f)
-
 -- Each step of an accepted slot finds what it asks in the state that the one before it left, whoever made that state,
 -- where it is told what the slot decides.
 module _ (x : State) (store : List ℕ) (call : Call) (accepted : Accepted paper x store call) where
@@ -210,5 +204,5 @@ module _ (x : State) (store : List ℕ) (call : Call) (accepted : Accepted paper
                     })
                     (slot paper x store call)
                 all-in-turn turned gave none-refused =
-                    same-answer refl gave to-write to-read (turned ∙ ap afterPhase state-5) store-4
+                    answer-is (accept x store call) _ refl gave to-write to-read (turned ∙ ap afterPhase state-5) store-4
                     ∙ ap (λ (n : ℕ). answer n x store call) (sym none-refused)

@@ -18,7 +18,7 @@ use Rattle.model.proofs.basics.Tests.{by-zero, by-test}
 use Rattle.model.proofs.one_slot.Rules.{Keeps, keeps-facts, keeps-holds}
 use Rattle.model.proofs.one_slot.Accepted.{RefusedOrAccepted, was-refused, was-accepted, outcome}
 use Rattle.model.proofs.one_slot.Kept.{Kept}
-use Rattle.model.proofs.one_slot.Calls.{promised-form, form-kept, slot-promised}
+use Rattle.model.proofs.one_slot.Calls.{answer-is, promised-form, form-kept, slot-promised}
 use Rattle.layout.specs.declared.Regs.{Regs}
 use Rattle.layout.specs.Views.{Arrays}
 use Rattle.layout.specs.Calls.{chosenIn, deliveryIn}
@@ -29,7 +29,6 @@ use Rattle.slot_checked.proofs.Planned.{slot-number}
 use Rattle.buffer.specs.declared.State as code
 use Rattle.buffer.specs.declared.Slotted.{Slotted}
 use Rattle.buffer.specs.Says.{stateOf, JudgeSays, answerOf, SlotSays, StepSays}
-use Rattle.buffer.proofs.InTurn.{same-answer}
 
 -- A slot that answers a refusal delivers and moves nothing, and leaves all as it was.
 pub record Untouched (x : State) (store : List ℕ) (a : Answer) : Type 0 where
@@ -140,9 +139,9 @@ pub carried-says : (s : code.State) (store : List ℕ) (call : Call) {r : Slotte
     → chosenIn (r .written) ≡ queueToWrite (asked (stateOf s) call)
     → chosenIn (r .read) ≡ queueToRead (wrote (stateOf s) call) → store′ ≡ wroteStore (stateOf s) store call
     → SlotSays s store call r store′
-carried-says s store call clear zero-is state-is delivery-is written-is read-is store-is =
+carried-says s store call {r} {store′} clear zero-is state-is delivery-is written-is read-is store-is =
     says-slot s store call
-    (same-answer zero-is delivery-is written-is read-is state-is store-is
+    (answer-is (accept (stateOf s) store call) (answerOf r store′) zero-is delivery-is written-is read-is state-is store-is
     ∙ ap (λ (n : ℕ). answer n (stateOf s) store call) (sym clear))
     (λ f. absurd (f zero-is))
 

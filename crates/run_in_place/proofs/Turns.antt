@@ -14,6 +14,7 @@ use Rattle.model.specs.Slot.{Call, Answer, slot}
 use Rattle.model.specs.Lists.{stepOf, run, lastState, lastStore}
 use Rattle.model.proofs.one_slot.Rules.{keeps-facts}
 use Rattle.model.proofs.one_slot.Kept.{slot-kept}
+use Rattle.model.proofs.one_slot.Calls.{answer-is}
 use Rattle.model.proofs.one_slot.Lists.{last-append, last-store-append, run-append, run-length}
 use Rattle.layout.specs.Counts.{ByQueue}
 use Rattle.layout.specs.Calls.{chosenIn, arrivalIn, requestIn, deliveryIn, callIn}
@@ -36,12 +37,6 @@ advancedIn r = record {
   written = r .written;
   read = r .read;
 }
-
-same-answer : {n m : ℕ} {d e : Option Byte} {w v r p : Option ℕ} {x y : State} {xs ys : List ℕ}
-    → n ≡ m → d ≡ e → w ≡ v → r ≡ p → x ≡ y → xs ≡ ys
-    → _≡_ {A = Answer} (record { number = n; delivered = d; written = w; read = r; state = x; store = xs })
-    (record { number = m; delivered = e; written = v; read = p; state = y; store = ys })
-same-answer a b c d e f = rw (a, b, c, d, e, f)
 
 -- The run before call i.
 pub record RunTo (i : ℕ) (x : State) (store : List ℕ) (calls : List Call) (before after : List ℕ) (state : State)
@@ -213,8 +208,9 @@ pub ran-one : {x : State} {store : List ℕ} (call : Call) {before after : List 
 ran-one {x} {store} call {r = r} {m} {counts} {store′} ran ready one =
     let a = one call refl in
     record {
-      answer-is = same-answer (a .number-is) (a .delivered-is) (a .written-is) (a .read-is) (ran .state-is)
-          (ran .store-is);
+      answer-is =
+          answer-is (slot paper x store call) (answerIn (advancedIn r) m store′) (a .number-is) (a .delivered-is)
+          (a .written-is) (a .read-is) (ran .state-is) (ran .store-is);
       ready = ready;
     }
 

@@ -1,14 +1,12 @@
 // Many slots in one call, in place: no copy of the state per slot, the calls in a lent slice, an answer for each in
 // another.
 ghost use mathlib.Core.List.{map};
-ghost use mathlib.Core.Path.{_≡_};
-ghost use Prim.Native.Nat.{_≤_, _<_};
+ghost use Prim.Native.Nat.{_≤_};
 ghost use lib.ListN.{length};
 ghost use Rattle.layout.specs.Lent.{given, found, left, countsGiven, countsLeft};
 ghost use Rattle.layout.specs.Views.{stateIn};
 ghost use Rattle.slot_in_place.specs.Says.{Ready};
-ghost use Rattle.layout.specs.Calls.{chosenIn, deliveryIn};
-ghost use Rattle.run_words.specs.Words.{callOf, byteWord, queueWord};
+ghost use Rattle.run_words.specs.Words.{callOf};
 ghost use Rattle.run_in_place.specs.Says.{CalledSays, RunInPlaceSays, OneCallSays};
 use layout::CellArray;
 use layout::Chosen;
@@ -18,7 +16,6 @@ use layout::HeadArray;
 use layout::Regs;
 use layout::RingArray;
 use layout::TailArray;
-use slot_in_place::Advanced;
 
 // Where a slot of a run leaves the registers, its answer, and that answer as one number.
 pub struct Called {
@@ -28,39 +25,6 @@ pub struct Called {
     pub written: Chosen,
     pub read: Chosen,
     pub word: u64,
-}
-
-// What a slot delivers as 17 bits, the queues that it writes and reads as 9. Each is taken out of the whole answer. By
-// itself it would be handed over as one number of all its bytes, right after they were stored one by one, and for that
-// a processor waits: 9 ns in each slot.
-fn delivered_bits(answer: Advanced) -> u64
-    ensures { λ r. ⌜ (r < 131072) × (r ≡ byteWord (deliveryIn (answer .delivery))) ⌝ }
-{
-    let delivery = answer.delivery;
-    match delivery {
-        Delivery::Gives(q, v) => 65536 + (q as u64) * 256 + (v as u64),
-        Delivery::NoDelivery => 0,
-    }
-}
-
-fn written_bits(answer: Advanced) -> u64
-    ensures { λ r. ⌜ (r < 512) × (r ≡ queueWord (chosenIn (answer .written))) ⌝ }
-{
-    let written = answer.written;
-    match written {
-        Chosen::Queue(q) => 256 + (q as u64),
-        Chosen::Nothing => 0,
-    }
-}
-
-fn read_bits(answer: Advanced) -> u64
-    ensures { λ r. ⌜ (r < 512) × (r ≡ queueWord (chosenIn (answer .read))) ⌝ }
-{
-    let read = answer.read;
-    match read {
-        Chosen::Queue(q) => 256 + (q as u64),
-        Chosen::Nothing => 0,
-    }
 }
 
 // One slot whose call and answer are numbers.
@@ -101,12 +65,12 @@ pub fn answer_call(
         request,
         store,
     );
-    let number = a.number;
-    let word = run_words::answer_of_bits(number, delivered_bits(a), written_bits(a), read_bits(a));
     let next = a.regs;
+    let number = a.number;
     let delivery = a.delivery;
     let written = a.written;
     let read = a.read;
+    let word = run_words::answer_word(number, delivery, written, read);
     Called {
         regs: next,
         number: number,
@@ -117,8 +81,9 @@ pub fn answer_call(
     }
 }
 
-// The slots of all calls, in order, and what the last of them answered. It is the one place from which a slot is called in
-// place, so that the compiler puts the slot into its loop; whoever wants one slot runs one call.
+// The slots of all calls, in order, and what the last of them answered. But for scripts, which print after each slot, it
+// is the only caller of the slot in place, so that the compiler puts the slot into its loop; whoever wants one slot runs
+// one call.
 pub fn run_calls(
     tail: &mut TailArray,
     head: &mut HeadArray,

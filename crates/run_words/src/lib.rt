@@ -1,7 +1,7 @@
 // Calls and answers of slots as one number each, for runs of many slots over lent slices. specs/Words.antt has the
 // layout of their bits.
 ghost use mathlib.Core.Path.{_≡_};
-ghost use Prim.Native.Nat.{_+_, _*_, _<_};
+ghost use Prim.Native.Nat.{_<_};
 ghost use Rattle.layout.specs.Calls.{chosenIn, arrivalIn, requestIn, deliveryIn, callIn};
 ghost use Rattle.run_words.specs.Words.{byteWord, queueWord, byteIn, queueIn, callOf};
 ghost use Rattle.run_words.specs.Words.{answerWord, numberOf, deliveredOf, writtenOf, readOf};
@@ -77,24 +77,14 @@ fn chosen_bits(chosen: Chosen) -> u64
     }
 }
 
-// An answer as one number, of its parts as bits.
-pub fn answer_of_bits(number: u8, delivered: u64, written: u64, read: u64) -> u64
-    requires { ⌜ (delivered < 131072) × (written < 512) × (read < 512) ⌝ }
-    ensures { λ r. ⌜ r ≡ number * 34359738368 + read * 67108864 + written * 131072 + delivered ⌝ }
-{
-    (number as u64) * 34359738368 + read * 67108864 + written * 131072 + delivered
-}
-
 // An answer as one number: the refusal's number or 0, the byte delivered, the queue written and the queue read.
 pub fn answer_word(number: u8, delivery: Delivery, written: Chosen, read: Chosen) -> u64
     ensures { λ r. ⌜ r ≡ answerWord number (deliveryIn delivery) (chosenIn written) (chosenIn read) ⌝ }
 {
-    answer_of_bits(
-        number,
-        delivery_bits(delivery),
-        chosen_bits(written),
-        chosen_bits(read),
-    )
+    (number as u64) * 34359738368
+        + chosen_bits(read) * 67108864
+        + chosen_bits(written) * 131072
+        + delivery_bits(delivery)
 }
 
 // The refusal's number of an answer, or 0.

@@ -1,44 +1,58 @@
--- `answer_word` meets its contract: each of the three parts is what its own contract says.
+-- `answer_word` meets its contract: each of the three parts is what its own contract says, and all of them fit 64 bits.
 use native.Mathlib.Omega.{arith}
 use borrow.Author.Needs.{needs}
 use Rattle.run_words.specs.Words.{answerWord}
 use Rattle.run_words.proofs.answer_word.Statement.{statement}
 use Rattle.run_words.proofs.answer_word.Tie as tie
 
-delivery-bits-requires : tie.Need-delivery-bits-requires
-delivery-bits-requires c κs = search needs
+mul-result : tie.Need-mul-result
+mul-result c = search needs
 
 chosen-bits-requires : tie.Need-chosen-bits-requires
 chosen-bits-requires c κs = search needs
 
+mul-result-2 : tie.Need-mul-result-2
+mul-result-2 c = search needs
+
+add-result : tie.Need-add-result
+add-result c = search needs
+
 chosen-bits-requires-2 : tie.Need-chosen-bits-requires-2
 chosen-bits-requires-2 c κs = search needs
 
-answer-of-bits-requires : tie.Need-answer-of-bits-requires
-answer-of-bits-requires c κs = (
-  c .before .before .delivery-bits .ensures .0,
-  c .before .chosen-bits .ensures .0,
-  c .chosen-bits2 .ensures .0,
-)
+mul-result-3 : tie.Need-mul-result-3
+mul-result-3 c = search needs
+
+add-result-2 : tie.Need-add-result-2
+add-result-2 c = search needs
+
+delivery-bits-requires : tie.Need-delivery-bits-requires
+delivery-bits-requires c κs = search needs
+
+add-result-3 : tie.Need-add-result-3
+add-result-3 c = search needs
 
 returns : tie.Need-returns
 unfolding answerWord
 returns c =
-    let bits = c .before in
     omega (
       arith,
-      c .answer-of-bits .ensures,
-      bits .before .before .delivery-bits .ensures .1,
-      bits .before .chosen-bits .ensures .1,
-      bits .chosen-bits2 .ensures .1,
+      c .before .before .chosen-bits .ensures .1,
+      c .before .chosen-bits2 .ensures .1,
+      c .delivery-bits .ensures .1,
     )
 
 pub answer-word-spec : {M : Type 1} → statement M
 answer-word-spec =
     tie.close
     (tie.spec
-    delivery-bits-requires
+    mul-result
     chosen-bits-requires
+    mul-result-2
+    add-result
     chosen-bits-requires-2
-    answer-of-bits-requires
+    mul-result-3
+    add-result-2
+    delivery-bits-requires
+    add-result-3
     returns)

@@ -120,6 +120,8 @@ impl Buffer {
         if let Some((queue, byte)) = arrival {
             next.join_tail(queue, byte);
         }
+        // Request 2.8: the tail is looked at just after the arrival joins it, so a byte that the request takes
+        // counts too. Without an arrival nothing rises, since the mark is at least the fill already.
         next.tail_mark = next.tail_mark.max(fill(&next.tail));
         next.take_youngest_cell(request);
         let mut written = None;
@@ -139,6 +141,8 @@ impl Buffer {
                 next.read_first_block(queue, store);
             }
         }
+        // The head is looked at just after the read, so the byte that left in step 1 no longer counts. Without
+        // a read the head has not grown, and nothing rises.
         next.head_mark = next.head_mark.max(fill(&next.head));
         next.phase = (next.phase + 1) % next.sizes.b;
         *self = next;

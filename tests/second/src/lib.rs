@@ -1,4 +1,4 @@
-//! A second program, written from the paper alone, to check the first against.
+//! A second program, written from the paper and the requests alone, to check the first against.
 
 mod breaks;
 mod buffer;

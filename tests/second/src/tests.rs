@@ -1,5 +1,7 @@
 //! The paper's examples C1 to C12, its listing, and what else it settles.
 
+mod high_marks;
+
 use crate::buffer::{Answer, Buffer};
 use crate::lists::Traffic;
 use crate::program::run_script;

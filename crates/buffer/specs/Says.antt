@@ -70,8 +70,8 @@ answerOf r store = record {
   store = store;
 }
 
--- One slot: the answer, the whole state and the whole store by the paper's slot; only the two high marks are free
--- between fill and cache size. On a refusal the very record comes back, places past a fill included.
+-- One slot: the answer, the whole state with its high marks and the whole store are those of the model's slot. On a
+-- refusal the very record comes back, places past a fill included.
 pub record SlotSays (s : code.State) (store : List ℕ) (call : Call) (r : Slotted) (store′ : List ℕ) : Type 0 where
   pub promised : Promised paper (stateOf s) store call (answerOf r store′)
   pub as-given : (r .number ≡ 0 → ⊥) → r .state ≡ s

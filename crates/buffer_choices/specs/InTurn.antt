@@ -8,8 +8,7 @@ use mathlib.Core.Option.{some}
 use Prim.Native.Nat.{ℕ, _<_}
 use lib.ListN.{length}
 use Rattle.model.specs.Sizes.{paper}
-use Rattle.model.specs.State.{State}
-use Rattle.model.specs.Slot.{Call, Answer, delivery, afterArrival, isOwed, afterRequest, queueToWrite, afterWrite}
+use Rattle.model.specs.Slot.{Answer, delivery, afterArrival, isOwed, afterRequest, queueToWrite, afterWrite}
 use Rattle.model.specs.Slot.{storeWritten, queueToRead, afterRead, afterPhase, slot}
 use Rattle.layout.specs.declared.Chosen.{Chosen}
 use Rattle.layout.specs.Calls.{chosenIn, arrivalIn, requestIn, deliveryIn, callIn}
@@ -17,8 +16,7 @@ use Rattle.layout.specs.declared.Arrival.{Arrival}
 use Rattle.layout.specs.declared.Request.{Request}
 use Rattle.layout.specs.declared.Delivery.{Delivery}
 use Rattle.buffer.specs.declared.State as code
-use Rattle.buffer.specs.declared.Slotted.{Slotted}
-use Rattle.buffer.specs.Says.{stateOf, JudgeSays, answerOf}
+use Rattle.buffer.specs.Says.{stateOf, JudgeSays}
 use Rattle.buffer.specs.OneStep.{opened, closed, CachesFit, DeliverAsks, AskAsks, WriteAsks, ReadAsks}
 
 -- What the nine calls gave, in their order: the state of each step, and what the choices told. The store is as the
@@ -70,7 +68,7 @@ answerOfSteps g = record {
   store = g .store;
 }
 
--- Every step finds what it asks, and the answer is the slot's, marks included.
+-- Every step finds what it asks, and the answer is the slot's.
 pub record MakesTheSlot (s : code.State) (store : List ℕ) (arrival : Arrival) (request : Request)
     (g : StepAnswers) : Type 0
   where
@@ -88,8 +86,3 @@ StepsInTurn =
     (s : code.State) (store : List ℕ) (arrival : Arrival) (request : Request) (judged : ℕ) (g : StepAnswers)
     → JudgeSays (stateOf s) (length store) (callIn arrival request) judged → judged ≡ 0
     → ByContract s store arrival request g → MakesTheSlot s store arrival request g
-
--- The slot made so, of any state and any store: exactly the model's, marks included, and on a refusal the very record.
-pub record InTurnSays (s : code.State) (store : List ℕ) (call : Call) (r : Slotted) (store′ : List ℕ) : Type 0 where
-  pub answer-is : answerOf r store′ ≡ slot paper (stateOf s) store call
-  pub as-given : (r .number ≡ 0 → ⊥) → r .state ≡ s

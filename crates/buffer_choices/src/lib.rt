@@ -11,9 +11,9 @@ ghost use Rattle.layout.specs.Lengths.{headPlaces, queuePlaces};
 ghost use Rattle.layout.specs.Entries.{bytesIn, countsIn, cellsIn};
 ghost use Rattle.layout.specs.Calls.{chosenIn, requestIn, callIn};
 ghost use Rattle.layout.specs.Figures.{blocksIn};
-ghost use Rattle.buffer.specs.Says.{stateOf};
+ghost use Rattle.buffer.specs.Says.{stateOf, SlotSays};
 ghost use Rattle.buffer_choices.specs.Says.{TallyOfAll};
-ghost use Rattle.buffer_choices.specs.InTurn.{StepsInTurn, InTurnSays};
+ghost use Rattle.buffer_choices.specs.InTurn.{StepsInTurn};
 use buffer::Slotted;
 use buffer::State;
 use layout::Arrival;
@@ -174,7 +174,7 @@ pub fn owes_request(state: State, request: Request) -> bool
 // One slot, of any state and any store: judged, and where nothing is refused its steps in turn, each choice made on the
 // state at hand. On a refusal the very record comes back.
 pub fn in_turn(state: State, arrival: Arrival, request: Request, store: &mut [u8]) -> Slotted
-    ensures { λ r. ⌜ InTurnSays state (now (store .entry)) (callIn arrival request) r (now (store .exit)) ⌝ }
+    ensures { λ r. ⌜ SlotSays state (now (store .entry)) (callIn arrival request) r (now (store .exit)) ⌝ }
 {
     let number = state.judge(arrival, request, store.len());
     if number != 0 {

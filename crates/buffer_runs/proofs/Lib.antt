@@ -1,3 +1,2 @@
--- What arrays hold after many slots, as the record that they make; demand 3 over calls of every kind.
-pub mod Runs
+-- Demand 3 over calls of every kind, and the high marks that they leave.
 pub mod Demand

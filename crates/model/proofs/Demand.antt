@@ -15,8 +15,8 @@ use Rattle.model.specs.Basics.{tabulate, All, when}
 use Rattle.model.specs.Sizes.{Sizes, Limits, accepts, span, lookahead, storeBytes, full}
 use Rattle.model.specs.State.{Byte, empty, State, fresh, owedOf, keeps}
 use Rattle.model.specs.Slot.{Call, oldestCell, wrote, queueToRead, arrivalUnknown, arrivalFull, requestUnknown}
-use Rattle.model.specs.Slot.{arriving, nothingToTake, leavesUncovered, tailFull, headFull, refusals, Answer}
-use Rattle.model.specs.Lists.{Step, stepOf, Chain, stepsOf, listOf, accepted, requestAt, dueToAll}
+use Rattle.model.specs.Slot.{arriving, nothingToTake, leavesUncovered, tailFull, headFull, refusals, Answer, slot}
+use Rattle.model.specs.Lists.{Step, stepOf, run, Chain, stepsOf, listOf, accepted, requestAt, dueToAll}
 use Rattle.model.specs.Ideal.{Ideal, lineOf, standsFor}
 use Rattle.model.specs.Demand.{CachesHold, NoMiss, RefusedSilent, ListMeets, Demand-3}
 use Rattle.model.proofs.basics.AllOf.{_also_}
@@ -24,44 +24,43 @@ use Rattle.model.proofs.basics.Tests.{and-both, between-holds}
 use Rattle.model.proofs.basics.FirstRefusal.{not-first, when-excluded}
 use Rattle.model.proofs.basics.Rings.{ring-fresh}
 use Rattle.model.proofs.meaning.Steps.{tail-looked-at, head-looked-at}
-use Rattle.model.proofs.one_slot.Rules.{Keeps, keeps-holds}
+use Rattle.model.proofs.one_slot.Rules.{keeps-holds}
+use Rattle.model.proofs.one_slot.Accepted.{RefusedOrAccepted, was-refused, was-accepted, outcome}
 use Rattle.model.proofs.one_slot.Kept.{length-joined, accept-kept}
-use Rattle.model.proofs.one_slot.Calls.{AnswerForm, form-refused, form-accepted, promised-form, answersOf}
-use Rattle.model.proofs.one_slot.Calls.{run-steps, run-chain}
-use Rattle.model.proofs.one_slot.Links.{Links, no-link, other-marks, next-link, chain-links}
-use Rattle.model.proofs.no_miss.Good.{Good, form-good, good-fresh, good-marks}
+use Rattle.model.proofs.one_slot.Calls.{chain-is-list}
+use Rattle.model.proofs.no_miss.Good.{Good, slot-good, good-fresh}
 use Rattle.model.proofs.delay.IdealSlot.{same-ideal}
-use Rattle.model.proofs.delay.Delay.{Delays, gives, links-delays, given-is-due, due-from-nothing}
+use Rattle.model.proofs.delay.Delay.{Delays, gives, list-delays, given-is-due, due-from-nothing}
 use Rattle.model.proofs.delay.Delay.{arrived-since-fresh}
 use Rattle.model.proofs.delay.Sentences.{sentences}
 use Rattle.model.proofs.missing.Misses.{misses}
 
--- What holds of every call on a good state holds all along a chain from one: sizes and the store's length stay.
+-- What holds of every slot on a good state holds all along a list from one: sizes and the store's length stay.
 module _ (limits : Limits) where
   along : (P : Step → Type 0) (s : Sizes) (n : ℕ)
       → ((x : State) (store : List ℕ) (call : Call) (a : Answer) → Good limits x → x .sizes ≡ s → length store ≡ n
-      → AnswerForm (full limits) x store call a → P (stepOf x store call a))
-      → {x : State} {store : List ℕ} {steps : List Step}
-      → Good limits x → x .sizes ≡ s → length store ≡ n
-      → Links (full limits) x store steps → All P steps
-  along P s n f g e l no-link = tt
-  along P s n f g e l (other-marks {x = x} {y = y} m v c) =
-      along P s n f (good-marks limits x y m v g) (sym (m .same-sizes) ∙ e) l c
-  along P s n f g e l (next-link {x = x} {store = store} {call = call} {a = a} p c) =
-      let t = promised-form (full limits) x store call a p in
-      let k = form-good limits x store call a g t in
-      (f x store call a g e l t, along P s n f (k .good) (k .same-sizes ∙ e) (k .same-length ∙ l) c)
+      → RefusedOrAccepted (full limits) x store call a → P (stepOf x store call a))
+      → (x : State) (store : List ℕ) (calls : List Call) → Good limits x → x .sizes ≡ s → length store ≡ n
+      → All P (run (full limits) x store calls)
+  along P s n f x store [] g e l = tt
+  along P s n f x store (call ∷ calls) g e l =
+      let a = slot (full limits) x store call in
+      let t = outcome (full limits) x store call in
+      let k = slot-good limits x store call a g t in (
+        f x store call a g e l t,
+        along P s n f (a .state) (a .store) calls (k .good) (k .same-sizes ∙ e) (k .same-length ∙ l),
+      )
 
   -- The caches hold, whether the slot is refused or accepted.
   call-caches : (x : State) (store : List ℕ) (call : Call) (a : Answer) → Good limits x
-      → AnswerForm (full limits) x store call a → CachesHold (x .sizes) (stepOf x store call a)
-  call-caches x store call a g (form-refused n e) = record {
+      → RefusedOrAccepted (full limits) x store call a → CachesHold (x .sizes) (stepOf x store call a)
+  call-caches x store call a g (was-refused n e) = record {
     tail-joined = g .kept .tail-fits;
     tail-ends = g .kept .tail-fits;
     head-read = g .kept .head-fits;
     head-ends = g .kept .head-fits;
   }
-  call-caches x store call a g (form-accepted m n f r) =
+  call-caches x store call a g (was-accepted f) =
       let k = accept-kept (full limits) x store call (omega arith) f .kept in record {
         tail-joined =
             omega (
@@ -77,13 +76,13 @@ module _ (limits : Limits) where
 
   -- A refused slot delivers nothing and moves nothing: its answer is `refuse`.
   refused-silent : (x : State) (store : List ℕ) (call : Call) (a : Answer)
-      → AnswerForm (full limits) x store call a → RefusedSilent (stepOf x store call a)
-  refused-silent x store call a (form-refused n e) = record {
+      → RefusedOrAccepted (full limits) x store call a → RefusedSilent (stepOf x store call a)
+  refused-silent x store call a (was-refused n e) = record {
     delivers-nothing = λ z. refl;
     writes-nothing = λ z. refl;
     reads-nothing = λ z. refl;
   }
-  refused-silent x store call a (form-accepted m n f r) = record {
+  refused-silent x store call a (was-accepted f) = record {
     delivers-nothing = λ z. absurd (z refl);
     writes-nothing = λ z. absurd (z refl);
     reads-nothing = λ z. absurd (z refl);
@@ -91,9 +90,9 @@ module _ (limits : Limits) where
 
   -- 8, 9 and 10 never come, since every refusal is 7 or lower.
   no-miss : (x : State) (store : List ℕ) (call : Call) (a : Answer) → Good limits x
-      → AnswerForm (full limits) x store call a → NoMiss (stepOf x store call a)
+      → RefusedOrAccepted (full limits) x store call a → NoMiss (stepOf x store call a)
   no-miss x store call a g t =
-      let low = form-good limits x store call a g t .low in record {
+      let low = slot-good limits x store call a g t .low in record {
         not-8 = λ e. omega (arith, e, low);
         not-9 = λ e. omega (arith, e, low);
         not-10 = λ e. omega (arith, e, low);
@@ -103,9 +102,9 @@ module _ (limits : Limits) where
   never : (bad : ℕ) → 1 ≤ bad → bad ≤ 3 → (x : State) (store : List ℕ) (call : Call) (a : Answer)
       → (3 ≡ bad → not (keeps (full limits) x) ≡ false)
       → (2 ≡ bad → ltb (length store) (storeBytes (x .sizes)) ≡ false)
-      → AnswerForm (full limits) x store call a → a .number ≡ bad → ⊥
-  never bad pos low x store call a three two (form-accepted m n f r) e = omega (arith, e)
-  never bad pos low x store call a three two (form-refused n f) e =
+      → RefusedOrAccepted (full limits) x store call a → a .number ≡ bad → ⊥
+  never bad pos low x store call a three two (was-accepted f) e = omega (arith, e)
+  never bad pos low x store call a three two (was-refused n f) e =
       not-first bad (refusals (full limits) x store call) pos (
       when-excluded bad (not (keeps (full limits) x)) 3 pos three
       also when-excluded bad (ltb (length store) (storeBytes (x .sizes))) 2 pos two
@@ -121,15 +120,6 @@ module _ (limits : Limits) where
     where
       later : (t : Bool) (k : ℕ) → 3 < k → when t k ≡ bad → ⊥
       later t k l = when-excluded bad t k pos (λ h. absurd (omega (arith, h)))
-
-  -- Every state of a chain from a good one keeps the rules.
-  pub chain-keeps : {x : State} {store : List ℕ} {calls : List Call} {answers : List Answer} → Good limits x
-      → Chain (full limits) x store calls answers
-      → All (λ (step : Step). Keeps (full limits) (step .state)) (stepsOf x store calls answers)
-  chain-keeps {x} {store} g c =
-      along (λ (step : Step). Keeps (full limits) (step .state)) (x .sizes) (length store)
-      (λ y st call a v e l t. form-good limits y st call a v t .good .kept) g refl refl
-      (chain-links (full limits) c)
 
 -- A fresh state stands for the ideal buffer in which nothing waits and nothing comes.
 line-fresh : (streams : ℕ → List ℕ) (n : ℕ) → lineOf streams (replicate n empty) ≡ replicate n none
@@ -148,9 +138,10 @@ stands-fresh limits s store =
     owed-now : ℕ → ℕ
     owed-now q = owedOf q (replicate (lookahead s) empty)
 
-pub every-link : (limits : Limits) (s : Sizes) (store : List ℕ) (steps : List Step) → accepts limits s ≡ true
-    → Links (full limits) (fresh (full limits) s) store steps → ListMeets s store steps
-every-link limits s store steps e c = record {
+-- Every list of slots.
+pub every-list : (limits : Limits) (s : Sizes) (store : List ℕ) (calls : List Call) → accepts limits s ≡ true
+    → ListMeets s store (listOf (full limits) s store calls)
+every-list limits s store calls e = record {
   bytes = record {
     delay = d .delivers ∙ ap
         (λ (l : List (Option Byte)). take (length slots) (replicate (lookahead s) none ++ l)) due;
@@ -176,35 +167,28 @@ every-link limits s store steps e c = record {
 
     all : (P : Step → Type 0)
         → ((y : State) (st : List ℕ) (call : Call) (a : Answer) → Good limits y → y .sizes ≡ s
-        → length st ≡ length store → AnswerForm (full limits) y st call a → P (stepOf y st call a))
-        → All P steps
-    all P f = along limits P s (length store) f good refl refl c
+        → length st ≡ length store → RefusedOrAccepted (full limits) y st call a → P (stepOf y st call a))
+        → All P (run (full limits) x store calls)
+    all P f = along limits P s (length store) f x store calls good refl refl
 
     slots : List Step
-    slots = accepted steps
+    slots = accepted (run (full limits) x store calls)
 
     d : Delays (quiet s) slots
     d = subst (λ (i : Ideal). Delays i slots) (stands-fresh limits s store)
-        (links-delays (full limits) (omega arith) (good .kept) c)
+        (list-delays (full limits) x store calls (omega arith) (good .kept))
 
     due : gives (λ q. []) slots ≡ dueToAll slots
     due =
         given-is-due (λ q. []) slots (d .finds)
         ∙ ap (tabulate (length slots)) (fun-ext (λ t. due-from-nothing slots t (requestAt slots t)))
 
--- A chain of calls is such a chain.
-pub every-chain : (limits : Limits) (s : Sizes) (store : List ℕ) (calls : List Call) (answers : List Answer)
+-- A chain of calls that keep a slot's promise is such a list.
+every-chain : (limits : Limits) (s : Sizes) (store : List ℕ) (calls : List Call) (answers : List Answer)
     → accepts limits s ≡ true → Chain (full limits) (fresh (full limits) s) store calls answers
     → ListMeets s store (stepsOf (fresh (full limits) s) store calls answers)
-every-chain limits s store calls answers e c = every-link limits s store _ e (chain-links (full limits) c)
-
--- A list of slots is a chain of calls.
-pub every-list : (limits : Limits) (s : Sizes) (store : List ℕ) (calls : List Call) → accepts limits s ≡ true
-    → ListMeets s store (listOf (full limits) s store calls)
-every-list limits s store calls e =
-    subst (ListMeets s store) (run-steps (full limits) (fresh (full limits) s) store calls)
-    (every-chain limits s store calls (answersOf (full limits) (fresh (full limits) s) store calls) e
-    (run-chain (full limits) (fresh (full limits) s) store calls (omega arith) (good-fresh limits s e .kept)))
+every-chain limits s store calls answers e c =
+    subst (ListMeets s store) (sym (chain-is-list (full limits) c)) (every-list limits s store calls e)
 
 -- The whole of demand 3, under any limits; under the paper's it is demand 3 of the accepted sizes.
 pub demand-3 : (limits : Limits) → Demand-3 limits

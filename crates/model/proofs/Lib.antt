@@ -17,6 +17,8 @@ pub mod delay
 pub mod missing
 -- Demand 3.
 pub mod Demand
+-- The high marks are the greatest fills.
+pub mod HighMarks
 -- The paper's examples and its numbers at their ends, computed.
 pub mod Examples
 pub mod Numbers

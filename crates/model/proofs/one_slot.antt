@@ -1,5 +1,5 @@
 -- A slot is refused whole, or accepted with none of the refusals; an accepted one keeps the rules and the store's
--- length, and changes no byte outside the block that it writes. A list of slots is a chain of calls.
+-- length, and changes no byte outside the block that it writes. Calls that keep a slot's promise are a list of slots.
 pub mod Rules
 pub mod StepsKeepRules
 pub mod MovesKeepRules
@@ -7,5 +7,4 @@ pub mod Accepted
 pub mod Kept
 pub mod Elsewhere
 pub mod Calls
-pub mod Links
 pub mod Lists

@@ -17,6 +17,7 @@ use Rattle.model.specs.Calls.{arrival, request, both, idle}
 -- What a slot is to answer. Each also says which block moves and what is delivered: none and nothing, but for what it
 -- names.
 infix 80 _delivering_
+infix 75 _fills_and_marks_and_
 pub data Outcome : Type 0 where
   taken : Outcome
   -- Taken, and the block of this queue that moves.
@@ -29,6 +30,8 @@ pub data Outcome : Type 0 where
   misses : ℕ → Outcome
   -- An outcome, and the byte that is delivered with it.
   _delivering_ : Outcome → Byte → Outcome
+  -- An outcome, the fills of tail and head as the slot ends, and the two high marks, the tail's first.
+  _fills_and_marks_and_ : Outcome → ℕ → ℕ → ℕ → ℕ → Outcome
 
 -- A slot of a list beside the outcome that is expected of it.
 infix 70 _⇒_
@@ -96,6 +99,12 @@ meets (takenHeld q v) y a = answers 0 y none none a && isHeld q v (youngestOf (a
 meets (refused n) y a = answers n y none none a
 meets (misses q) y a = answers 8 y none none a && eqb (owes q (oldestCell (a .state .cells))) 1
 meets (outcome delivering x) y a = meets outcome (some x) a
+meets (outcome fills t and h marks m and n) y a = allTrue (
+    meets outcome y a ∷
+    eqb (length (a .state .tail)) t ∷
+    eqb (length (a .state .head)) h ∷
+    eqb (a .state .tailMark) m ∷
+    eqb (a .state .headMark) n ∷ [])
 
 -- Each slot has its outcome, and gets state and store as the one before left them.
 abbrev allMeet : Design → State → List ℕ → List Expected → Bool

@@ -7,7 +7,7 @@ use Rattle.model.specs.State.{byte, empty, owed, State, fresh}
 use Rattle.model.specs.Calls.{arrival, request, both, idle}
 use Rattle.model.specs.Examples.{Expected, _⇒_, taken, writes, reads, takenHeld, refused, misses, _delivering_}
 use Rattle.model.specs.Examples.{Example, sizesTaken, sizesRefused, sizesAre, blockIs, noBlock, slots}
-use Rattle.model.specs.Examples.{made_phase_tail_head_cells_blocks_}
+use Rattle.model.specs.Examples.{_fills_and_marks_and_, made_phase_tail_head_cells_blocks_}
 
 -- Slots from a fresh state with b 1, so that L is 1 and each slot may move, and with b 2.
 abbrev withB1 : List Expected → Example
@@ -63,4 +63,10 @@ falseExamples =
     withB2 (arrival 0 65 ⇒ takenHeld 0 65 ∷ []) ∷
     -- A miss of another queue, and one that is none.
     slots paper uncovered (idle ⇒ misses 1 ∷ []) ∷
-    withB2 (idle ⇒ misses 0 ∷ []) ∷ []
+    withB2 (idle ⇒ misses 0 ∷ []) ∷
+    -- Another outcome; another fill of the tail, of the head; another mark of the tail, of the head.
+    withB2 (arrival 0 65 ⇒ refused 5 fills 1 and 0 marks 1 and 0 ∷ []) ∷
+    withB2 (arrival 0 65 ⇒ taken fills 0 and 0 marks 1 and 0 ∷ []) ∷
+    withB2 (arrival 0 65 ⇒ taken fills 1 and 1 marks 1 and 0 ∷ []) ∷
+    withB2 (arrival 0 65 ⇒ taken fills 1 and 0 marks 2 and 0 ∷ []) ∷
+    withB2 (arrival 0 65 ⇒ taken fills 1 and 0 marks 1 and 1 ∷ []) ∷ []

@@ -1,6 +1,7 @@
 -- The slot buffer of document 01, as definitions. Sizes, State, Slot and Lists render its sections in its order;
 -- Basics has what they share, Calls the calls by name, Ideal the buffer as a user thinks of it, Demand the statements
--- of demand 3, Idle what idle slots come to, Examples the paper's table of examples.
+-- of demand 3, HighMarks those of request 2.8, Idle what idle slots come to, Examples the paper's table of examples,
+-- RequestExamples that of the requests.
 pub mod Basics
 pub mod Sizes
 pub mod State
@@ -9,7 +10,9 @@ pub mod Calls
 pub mod Lists
 pub mod Ideal
 pub mod Demand
+pub mod HighMarks
 pub mod Idle
 pub mod Examples
+pub mod RequestExamples
 pub mod FalseExamples
 pub mod Worked

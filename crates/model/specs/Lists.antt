@@ -7,7 +7,7 @@ use lib.Dec.{eqb}
 use lib.ListN.{length, take, getElem?}
 use Rattle.model.specs.Basics.{choose, tabulate}
 use Rattle.model.specs.Sizes.{Sizes, Design}
-use Rattle.model.specs.State.{Byte, State, fresh, valuesOf, SameButMarks, MarksInRange}
+use Rattle.model.specs.State.{Byte, State, fresh, valuesOf}
 use Rattle.model.specs.Slot.{Call, asByte, arriving, joined, refilled, Answer, slot}
 
 -- One slot of a list: the number that it answers (0, or a refusal), what it took of its arrival and its request, its
@@ -71,18 +71,10 @@ lastStore design x store [] = store
 lastStore design x store (call ∷ calls) =
     lastStore design (slot design x store call .state) (slot design x store call .store) calls
 
--- What a call of a slot promises: "its answer, the whole state and the whole store. Only the two high marks after an
--- accepted slot are left free, and the contract says of each that it is at least the present fill and at most the
--- cache size." On a refusal the state is the very one that was given.
-pub record Promised (design : Design) (x : State) (store : List ℕ) (call : Call) (a : Answer) : Type 0 where
-  pub number-is : a .number ≡ slot design x store call .number
-  pub delivered-is : a .delivered ≡ slot design x store call .delivered
-  pub written-is : a .written ≡ slot design x store call .written
-  pub read-is : a .read ≡ slot design x store call .read
-  pub store-is : a .store ≡ slot design x store call .store
-  pub state-is : SameButMarks (slot design x store call .state) (a .state)
-  pub marks-are : a .number ≡ 0 → MarksInRange (a .state)
-  pub as-given : (a .number ≡ 0 → ⊥) → a .state ≡ x
+-- What a call of a slot promises: "its answer, the whole state and the whole store", and the two high marks "outright
+-- too" (request 2.8). Nothing is free.
+abbrev pub Promised : Design → State → List ℕ → Call → Answer → Type 0
+Promised design x store call a = a ≡ slot design x store call
 
 -- Any calls of which each keeps that promise, on state and store exactly as the one before left them.
 pub data Chain (design : Design) : State → List ℕ → List Call → List Answer → Type 0 where

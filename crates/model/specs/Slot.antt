@@ -54,8 +54,9 @@ afterDelivery x =
     withHead (headWithout (oldestCell (x .cells)) (x .head))
     (withCells (drop 1 (x .cells)) x)
 
--- 2. "The arriving byte joins the tail." A mark rises with its fill: the paper leaves it free between fill and cache
--- size, the model takes the greatest fill so far, and no promise of a whole slot speaks of that choice.
+-- 2. "The arriving byte joins the tail." Of the tail's high mark request 2.8 says: "the tail is looked at just after
+-- the arrival joins it", and the mark is "the greater of the old one and the new fill". Where nothing arrives, the
+-- mark of a state that keeps the rules is at least the fill already.
 abbrev pub arriving : Option Byte → List Byte
 arriving none = []
 arriving (some y) = y ∷ []
@@ -164,6 +165,7 @@ ringsRead none x = x .rings
 ringsRead (some q) x =
     set (x .rings) q (ring ((ringOf (x .rings) q .first + 1) % x .sizes .K) (ringOf (x .rings) q .count - 1))
 
+-- "The head is looked at just after the read."
 abbrev pub afterRead : Option ℕ → State → List ℕ → State
 afterRead readQueue x store =
     withHead (headRead readQueue x store)

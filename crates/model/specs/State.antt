@@ -1,8 +1,7 @@
 -- Document 01, "The state".
-use mathlib.Core.Path.{_≡_}
 use mathlib.Core.Bool.{Bool, true, not}
 use mathlib.Core.List.{List, [], _∷_}
-use Prim.Native.Nat.{ℕ, _+_, _*_, _≤_}
+use Prim.Native.Nat.{ℕ, _+_, _*_}
 use lib.Dec.{eqb, ltb, leb}
 use lib.IntN.{ℤ, pos, _-ℤ_}
 use lib.Signed.{ltZ}
@@ -34,7 +33,8 @@ abbrev pub ring : ℕ → ℕ → Ring
 ring f n = record { first = f; count = n }
 
 -- "The state is one record that carries its caches and lookahead inside it." Every list has its oldest first, the
--- rings are by queue number. The phase says how far the next move is.
+-- rings are by queue number. The phase says how far the next move is. "Two states are the same when the items above
+-- are": here that is equality.
 pub record State : Type 0 where
   pub sizes : Sizes
   pub phase : ℕ
@@ -161,8 +161,8 @@ abbrev pub isBacked : State → ℕ → Bool
 isBacked x q = leb (owedCells x q) (headBytes x q + x .sizes .b * blocks x q)
 
 -- "A state keeps the rules when the sizes are accepted, the fields lie in the ranges above, queue numbers are below
--- Q, fills fit the caches, and for each queue .." the last two. What it holds as a list has the length that it must
--- have.
+-- Q, fills fit the caches, and for each queue .." the last two. The two high marks are "each at least the present fill
+-- and at most the cache size". What it holds as a list has the length that it must have.
 abbrev pub rules : Design → State → List Bool
 rules design x =
     accepts (design .limits) (x .sizes) ∷
@@ -189,20 +189,3 @@ margin x q = pos (headBytes x q) -ℤ pos (owedCells x q)
 
 abbrev pub critical : State → ℕ → Bool
 critical x q = ltZ (margin x q) (pos 0)
-
--- "Two high marks, one for each cache, each at least the present fill and at most the cache size."
-pub record MarksInRange (x : State) : Type 0 where
-  pub tail-low : length (x .tail) ≤ x .tailMark
-  pub tail-high : x .tailMark ≤ tailSize (x .sizes)
-  pub head-low : length (x .head) ≤ x .headMark
-  pub head-high : x .headMark ≤ headSize (x .sizes)
-
--- "Two states are the same when the items above are": here that is equality. This is sameness but for the two high
--- marks, which the paper leaves free within their range after an accepted slot.
-pub record SameButMarks (x y : State) : Type 0 where
-  pub same-sizes : x .sizes ≡ y .sizes
-  pub same-phase : x .phase ≡ y .phase
-  pub same-tail : x .tail ≡ y .tail
-  pub same-head : x .head ≡ y .head
-  pub same-cells : x .cells ≡ y .cells
-  pub same-rings : x .rings ≡ y .rings

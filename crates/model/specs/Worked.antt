@@ -14,6 +14,7 @@ use Rattle.model.specs.Slot.{Call}
 use Rattle.model.specs.Calls.{arrival, request, both, idle}
 use Rattle.model.specs.Lists.{Step, listOf, lastState, lastStore, accepted, deliveries, arrivalsOf, requestsOf}
 use Rattle.model.specs.Lists.{dueToAll}
+use Rattle.model.specs.HighMarks.{greatest, tailLooks, headLooks}
 use Rattle.model.specs.Idle.{quietly, leadingEmpties, moveDue, quietOf}
 
 abbrev workedSizes : Sizes
@@ -110,7 +111,7 @@ workedSteps =
 
 -- What the definitions give of these slots is what was worked by hand: the fresh state, each step, the state that the
 -- first four leave and the store in the end; of the accepted ones the deliveries, what is due to each, queue 0's
--- arrivals, queue 1's requests.
+-- arrivals, queue 1's requests, and the fills as the caches are looked at.
 pub record WorkedSlots : Type 0 where
   pub fresh-is :
       fresh paper workedSizes
@@ -128,6 +129,9 @@ pub record WorkedSlots : Type 0 where
       ≡ (none ∷ none ∷ some a ∷ some x ∷ some b ∷ some y ∷ none ∷ none ∷ none ∷ [])
   pub arrivals-are : arrivalsOf 0 (accepted workedSteps) ≡ (97 ∷ 98 ∷ [])
   pub requests-are : requestsOf 1 (accepted workedSteps) ≡ 2
+  pub tail-looks-are : tailLooks (accepted workedSteps) ≡ (1 ∷ 2 ∷ 1 ∷ 2 ∷ 1 ∷ 1 ∷ 0 ∷ 0 ∷ 0 ∷ [])
+  pub head-looks-are : headLooks (accepted workedSteps) ≡ (0 ∷ 0 ∷ 0 ∷ 2 ∷ 2 ∷ 1 ∷ 1 ∷ 0 ∷ 0 ∷ [])
+  pub greatest-is : greatest (1 ∷ 3 ∷ 2 ∷ []) ≡ 3
 
 -- Blocks in the store, with Q 2, b 2, K 2 and a byte beyond: block 0 of queue 1 is at place 4, its block 1 at place 6,
 -- block 0 of queue 0 at place 0. Then block 0 of queue 1 is read, and its next one comes there.

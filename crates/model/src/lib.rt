@@ -1,12 +1,14 @@
 // The model of document 01: its definitions are in specs/, one file for each section, and their theory in proofs/.
-// No function here makes a state or runs a slot. These tie demand 3, the paper's examples and slots worked by hand to
-// contracts, so that the gate must prove them.
+// No function here makes a state or runs a slot. These tie demand 3, the high marks, the examples and slots worked by
+// hand to contracts, so that the gate must prove them.
 ghost use mathlib.Core.Path.{_≡_};
 ghost use mathlib.Core.Bool.{true, false};
 ghost use Rattle.model.specs.Basics.{allOf, someOf};
-ghost use Rattle.model.specs.Sizes.{Limits};
+ghost use Rattle.model.specs.Sizes.{Limits, Design};
 ghost use Rattle.model.specs.Demand.{Demand-3};
+ghost use Rattle.model.specs.HighMarks.{MarksExact};
 ghost use Rattle.model.specs.Examples.{examples, holds};
+ghost use Rattle.model.specs.RequestExamples.{requestExamples};
 ghost use Rattle.model.specs.FalseExamples.{falseExamples};
 ghost use Rattle.model.specs.Worked.{WorkedSlots, WorkedBlocks, WorkedIdle};
 
@@ -15,9 +17,15 @@ pub fn demand_3()
     ensures { λ _. ⌜ ((limits : Limits) → Demand-3 limits) ⌝ }
 {}
 
-// "C1 to C12 are proved of the definitions, as one table with one theorem for all rows."
+// Request 2.8, in any design: each high mark is exactly the greatest fill since the fresh state.
+pub fn marks_exact()
+    ensures { λ _. ⌜ ((design : Design) → MarksExact design) ⌝ }
+{}
+
+// "C1 to C12 are proved of the definitions, as one table with one theorem for all rows." The worked cases of the
+// requests are a second table.
 pub fn examples_hold()
-    ensures { λ _. ⌜ allOf holds examples ≡ true ⌝ }
+    ensures { λ _. ⌜ (allOf holds examples ≡ true) × (allOf holds requestExamples ≡ true) ⌝ }
 {}
 
 // No row that says one thing otherwise holds, so that a row says what it seems to say.

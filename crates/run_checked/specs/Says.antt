@@ -21,8 +21,8 @@ runLength calls answers = min (length calls) (length answers)
 abbrev pub callsRun : List ℕ → List ℕ → List Call
 callsRun calls answers = map callOf (take (runLength calls answers) calls)
 
--- The whole list: an answer for each of its slots, refused ones included, what lies behind them as it was; the store
--- and the state as the list leaves them, marks included. What a run leaves of a state that keeps the rules keeps them.
+-- The whole list: an answer for each of its slots, refused ones included, what lies behind them as it was; the whole
+-- store and the whole state as the list leaves them. What a run leaves of a state that keeps the rules keeps them.
 pub record RunCheckedSays (x : State) (calls answers store : List ℕ) (x′ : State)
     (answers′ store′ : List ℕ) : Type 0 where
   pub answers-are : answers′
@@ -31,7 +31,7 @@ pub record RunCheckedSays (x : State) (calls answers store : List ℕ) (x′ : S
   pub state-is : x′ ≡ lastState paper x store (callsRun calls answers)
   pub kept : keeps paper x ≡ true → keeps paper x′ ≡ true
 
--- One stretch of at most n idle slots: what its slots answer, state and store as they leave them, marks included.
+-- One stretch of at most n idle slots: what its slots answer, the whole state and the whole store as they leave them.
 pub record IdleCheckedSays (x : State) (store : List ℕ) (n : ℕ) (r : Passed) (x′ : State)
     (store′ : List ℕ) : Type 0 where
   pub stretch : StretchPassed x store n r

@@ -52,7 +52,7 @@ answerIn r m store = record {
   store = store;
 }
 
--- One slot, exactly as the model has it, marks included; what it leaves is ready for the next.
+-- One slot, exactly as the model has it; what it leaves is ready for the next.
 pub record AdvanceSays (x : State) (store : List ℕ) (call : Call) (r : Advanced) (m : Arrays)
     (counts : ByQueue) (store′ : List ℕ) : Type 0 where
   pub answer-is : answerIn r m store′ ≡ slot paper x store call

@@ -12,7 +12,7 @@ use Rattle.model.proofs.one_slot.Accepted.{Accepted, accepted-facts}
 use Rattle.layout.specs.Calls.{chosenIn, callIn}
 use Rattle.buffer.specs.Says.{stateOf}
 use Rattle.buffer.proofs.InTurn.{can-deliver, can-arrive, can-ask, can-write, can-read, can-turn, all-in-turn}
-use Rattle.buffer.proofs.Promises.{judged-clear, refused-slot}
+use Rattle.buffer.proofs.Promises.{judged-clear, refused-says}
 use Rattle.buffer_choices.proofs.InTurn.{owing-told, write-told, read-told}
 use Rattle.buffer_choices.proofs.in_turn.Statement.{statement}
 use Rattle.buffer_choices.proofs.in_turn.Tie as tie
@@ -98,13 +98,9 @@ judge-requires c κs = search needs
 returns : tie.Need-returns
 returns c =
     let s = c .before .before .before in
-    let x = stateOf (s .args .state) in
     let asked-call = callIn (s .args .arrival) (s .args .request) in
-    record {
-      answer-is = refused-slot x (s .args .store .now) asked-call
-          (c .before .judge .ensures .number-is (s .args .store .now) refl) (c .if1 .taken);
-      as-given = λ f. refl;
-    }
+    refused-says (s .args .state) (s .args .store .now) asked-call
+    (c .before .judge .ensures .number-is (s .args .store .now) refl) (c .if1 .taken)
 
 deliver-requires : tie.Need-deliver-requires
 deliver-requires c κs = can-deliver _ _ _ (accepted c)
@@ -171,7 +167,7 @@ returns-2 c =
     let a = arrived (told k) in
     let d = delivered a in
     record {
-      answer-is = all-in-turn _ _ _ (accepted (clear d)) (d .deliver .ensures .0) (a .arrive .ensures)
+      promised = all-in-turn _ _ _ (accepted (clear d)) (d .deliver .ensures .0) (a .arrive .ensures)
           (k .ask .ensures) (written-is w) (v .write .ensures .0) (v .write .ensures .1) (read-is r)
           (read .read .ensures) (c .turn .ensures) (d .deliver .ensures .1) (none-refused (clear d));
       as-given = λ f. absurd (f refl);

@@ -1,6 +1,5 @@
 -- `idle` meets its contract: a stretch of idle slots on the state's arrays, and the record with what they then hold.
 use borrow.Author.Needs.{needs}
-use Rattle.buffer_runs.proofs.Runs.{idled}
 use Rattle.buffer_runs.proofs.idle.Statement.{statement}
 use Rattle.buffer_runs.proofs.idle.Tie as tie
 
@@ -11,7 +10,7 @@ same-length : tie.Need-same-length
 same-length c = search needs
 
 returns : tie.Need-returns
-returns c = let passed = c .before .before .before in idled (passed .idle .ensures)
+returns c = let passed = c .before .before .before in passed .idle .ensures
 
 pub idle-spec : {M : Type 1} → statement M
 idle-spec = tie.close (tie.spec idle-requires same-length returns)

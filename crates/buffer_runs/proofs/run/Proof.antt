@@ -1,6 +1,5 @@
 -- `run` meets its contract: a run on the state's arrays, and the record with what they then hold.
 use borrow.Author.Needs.{needs}
-use Rattle.buffer_runs.proofs.Runs.{ran}
 use Rattle.buffer_runs.proofs.run.Statement.{statement}
 use Rattle.buffer_runs.proofs.run.Tie as tie
 
@@ -14,7 +13,7 @@ same-length-2 : tie.Need-same-length-2
 same-length-2 c = search needs
 
 returns : tie.Need-returns
-returns c = let called = c .before .before .before .before in ran (called .run .ensures)
+returns c = let called = c .before .before .before .before in called .run .ensures
 
 pub run-spec : {M : Type 1} → statement M
 run-spec = tie.close (tie.spec run-requires same-length same-length-2 returns)

@@ -11,7 +11,7 @@ use lib.Dec.{eqb, ltb}
 use lib.ListN.{length, drop, length-replicate, length-append}
 use borrow.Author.Tests.{ltb-true, ltb-false, ne-eqb, eqb-true, eq-eqb, not-true}
 use Rattle.model.specs.Basics.{choose}
-use Rattle.model.specs.Sizes.{Sizes, sizes, Limits, Design, full, oneFewer, cycleTime}
+use Rattle.model.specs.Sizes.{Sizes, Limits, Design, full, oneFewer, cycleTime}
 use Rattle.model.specs.State.{Byte, empty, held, owed, State, fresh, valuesOf, countOf, tailBytes, headBytes}
 use Rattle.model.specs.State.{blocks}
 use Rattle.model.specs.Slot.{Call, oldestOf, heldCell, youngestCell, arrivalFull, without, oldestCell, deliveryOf}
@@ -92,7 +92,7 @@ pub head-looked-at : (x : State) (store : List ℕ) (call : Call)
     → readFillOf 0 x store call ≡ length (accept x store call .state .head)
 head-looked-at x store call = refl
 
--- A high mark is the greatest fill so far, as the caches are looked at.
+-- Request 2.8: "On a handed-in state the mark is the greater of the old one and the new fill."
 pub tail-mark-rises : (x : State) (store : List ℕ) (call : Call)
     → accept x store call .state .tailMark ≡ max (x .tailMark) (joinedFillOf 0 x call)
 tail-mark-rises x store call = refl

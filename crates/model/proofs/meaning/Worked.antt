@@ -13,6 +13,9 @@ worked-slots = record {
   due-are = refl;
   arrivals-are = refl;
   requests-are = refl;
+  tail-looks-are = refl;
+  head-looks-are = refl;
+  greatest-is = refl;
 }
 
 pub worked-blocks : WorkedBlocks

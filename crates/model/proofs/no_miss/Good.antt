@@ -1,6 +1,6 @@
 -- From a state that keeps the rules and the invariant, a slot is never refused with 8, 9 or 10, and leaves such a
 -- state: the oldest cell is covered, and with the invariant both fills are below their bounds. `refusal-low` and
--- `form-good` say it.
+-- `slot-good` say it.
 use mathlib.Core.Path.{_≡_, refl, sym, _∙_, subst}
 use mathlib.Core.Bool.{true, false, not}
 use mathlib.Core.List.{List}
@@ -12,7 +12,7 @@ use lib.ListN.{length, length-append}
 use borrow.Author.Tests.{eqb-true, lt-leb, le-ltb}
 use Rattle.model.specs.Basics.{choose, when, All}
 use Rattle.model.specs.Sizes.{storeBytes, Sizes, Limits, accepts, span, lookahead, tailSize, headSize, full}
-use Rattle.model.specs.State.{keeps, Byte, State, fresh, ringOf, SameButMarks}
+use Rattle.model.specs.State.{keeps, Byte, State, fresh, ringOf}
 use Rattle.model.specs.Slot.{arrivalUnknown, arrivalFull, requestUnknown, nothingToTake, Call, afterDelivery}
 use Rattle.model.specs.Slot.{moves, queueToWrite, afterWrite, queueToRead, blockAt, bytesFor, headRead, afterRead}
 use Rattle.model.specs.Slot.{afterPhase, joined, asked, wrote, wroteStore, refilled, tailFull, headFull, refusal}
@@ -21,13 +21,12 @@ use Rattle.model.proofs.basics.AllOf.{_also_}
 use Rattle.model.proofs.basics.Tests.{by-test, none-not-some}
 use Rattle.model.proofs.basics.FirstRefusal.{low-refusal, when-le}
 use Rattle.model.proofs.basics.Bytes.{length-for}
-use Rattle.model.proofs.meaning.Marks.{by-marks}
 use Rattle.model.proofs.meaning.Steps.{move-writes-fullest, no-move-no-write, move-reads-scan, no-move-no-read}
 use Rattle.model.proofs.one_slot.Rules.{Rules, Keeps, keeps-fresh}
-use Rattle.model.proofs.one_slot.Accepted.{Judged, earlyRefusals, judged-facts}
-use Rattle.model.proofs.one_slot.Kept.{Kept, rules-2, rules-3, rules-written, rules-refilled, block-whole}
+use Rattle.model.proofs.one_slot.Accepted.{Judged, earlyRefusals, judged-facts, RefusedOrAccepted}
+use Rattle.model.proofs.one_slot.Accepted.{was-refused, was-accepted}
+use Rattle.model.proofs.one_slot.Kept.{rules-2, rules-3, rules-written, rules-refilled, block-whole}
 use Rattle.model.proofs.one_slot.Kept.{accept-kept}
-use Rattle.model.proofs.one_slot.Calls.{AnswerForm, form-refused, form-accepted, form-kept}
 use Rattle.model.proofs.no_miss.Invariant.{Invariant, invariant-fresh, invariant-delivered, invariant-arrived}
 use Rattle.model.proofs.no_miss.Invariant.{invariant-asked, invariant-wrote, invariant-read, oldest-covered}
 use Rattle.model.proofs.no_miss.Invariant.{head-bounded}
@@ -38,15 +37,6 @@ pub record Good (limits : Limits) (x : State) : Type 0 where
 
 pub good-fresh : (limits : Limits) (s : Sizes) → accepts limits s ≡ true → Good limits (fresh (full limits) s)
 good-fresh limits s e = record { kept = keeps-fresh (full limits) s e; invariant = invariant-fresh (full limits) s }
-
--- Other marks within the rules leave a state good.
-pub good-marks : (limits : Limits) (x y : State) → SameButMarks x y → Keeps (full limits) y → Good limits x
-    → Good limits y
-good-marks limits x y s v g = record {
-  kept = v;
-  invariant =
-      by-marks (λ z. Invariant (z .phase) (z .phase) (z .phase) z) x y s (λ m n. search (g .invariant));
-}
 
 -- A slot without the two moves changes nothing of the invariant in step 4, and step 5 none of it.
 wrote-none : (i j k : ℕ) (y : State) (o : Option ℕ) → o ≡ none → Invariant i j k y → Invariant i j k (afterWrite o y)
@@ -183,36 +173,24 @@ module _ (limits : Limits) (x : State) (store : List ℕ) (call : Call) (good : 
       (when (headFull (wrote x call) (queueToRead (wrote x call))) 10) early-low
       (λ e. rw (no-10 limits x store call good (judged-facts (full limits) x store call e)))
 
--- A call on a good state: its number, and the state that it leaves, whatever marks it chose.
-pub record GoodCall (limits : Limits) (x : State) (store : List ℕ) (a : Answer) : Type 0 where
+-- A slot on a good state: its number, and the state that it leaves.
+pub record GoodSlot (limits : Limits) (x : State) (store : List ℕ) (a : Answer) : Type 0 where
   pub good : Good limits (a .state)
   pub low : a .number ≤ 7
   pub same-sizes : a .state .sizes ≡ x .sizes
   pub same-length : length (a .store) ≡ length store
 
-pub form-good : (limits : Limits) (x : State) (store : List ℕ) (call : Call) (a : Answer) → Good limits x
-    → AnswerForm (full limits) x store call a → GoodCall limits x store a
-form-good limits x store call a g (form-refused n e) = record {
+pub slot-good : (limits : Limits) (x : State) (store : List ℕ) (call : Call) (a : Answer) → Good limits x
+    → RefusedOrAccepted (full limits) x store call a → GoodSlot limits x store a
+slot-good limits x store call a g (was-refused n e) = record {
   good = g;
   low = omega (arith, e, refusal-low limits x store call g);
   same-sizes = refl;
   same-length = refl;
 }
-form-good limits x store call a g (form-accepted m n f r) = record {
-  good = record {
-    kept = k .kept;
-    invariant = search v;
-  };
+slot-good limits x store call a g (was-accepted f) = record {
+  good = accept-good limits x store call g (f .judged);
   low = omega arith;
   same-sizes = refl;
-  same-length = k .same-length;
+  same-length = accept-kept (full limits) x store call (omega arith) f .same-length;
 }
-  where
-    k : Kept (full limits) x store a
-    k = form-kept (full limits) x store call a (omega arith) (g .kept) (form-accepted m n f r)
-
-    next : State
-    next = accept x store call .state
-
-    v : Invariant (next .phase) (next .phase) (next .phase) next
-    v = accept-good limits x store call g (f .judged) .invariant

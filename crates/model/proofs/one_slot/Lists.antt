@@ -1,16 +1,20 @@
 -- A list of slots: in two parts, the second goes on from what the first left; it has a step for each call, and
--- accepts at most as many. `run-append`, `last-append`, `run-length` and `accepted-few` say it.
+-- accepts at most as many; from a state that keeps the rules all its states do. `run-append`, `last-append`,
+-- `run-length`, `accepted-few` and `list-keeps` say it.
 use mathlib.Core.Path.{_≡_, refl, ap}
 use mathlib.Core.List.{List, [], _∷_, _++_}
 use Prim.Native.Nat.{ℕ, suc, _≤_}
 use native.Mathlib.Omega.{arith}
 use lib.Dec.{eqb}
 use lib.ListN.{length}
+use Rattle.model.specs.Basics.{All}
 use Rattle.model.specs.Sizes.{Design}
 use Rattle.model.specs.State.{State}
 use Rattle.model.specs.Slot.{Call, slot}
 use Rattle.model.specs.Lists.{Step, stepOf, run, lastState, lastStore, accepted}
 use Rattle.model.proofs.basics.Tests.{by-test}
+use Rattle.model.proofs.one_slot.Rules.{Keeps}
+use Rattle.model.proofs.one_slot.Kept.{slot-kept}
 
 -- In two parts.
 pub last-append : (design : Design) (x : State) (store : List ℕ) (calls more : List Call)
@@ -47,3 +51,15 @@ accepted-few (step ∷ steps) =
     by-test (eqb (step .number) 0)
     (λ t. rw t (omega (arith, accepted-few steps)))
     (λ t. rw t (omega (arith, accepted-few steps)))
+
+-- The rules.
+pub list-keeps : (design : Design) (x : State) (store : List ℕ) (calls : List Call)
+    → 1 ≤ design .cellCount (x .sizes) → Keeps design x
+    → All (λ (step : Step). Keeps design (step .state)) (run design x store calls)
+list-keeps design x store [] h v = tt
+list-keeps design x store (call ∷ calls) h v =
+    let k = slot-kept design x store call h v in (
+      k .kept,
+      list-keeps design (slot design x store call .state) (slot design x store call .store) calls
+          (rw (k .same-sizes) h) (k .kept),
+    )

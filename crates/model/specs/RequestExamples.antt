@@ -1,0 +1,46 @@
+-- The worked cases of the requests of document 02, as a second table beside C1 to C12: rows of the same kinds, under
+-- the request and the sentence that they render.
+use mathlib.Core.List.{List, [], _∷_}
+use lib.ListN.{replicate}
+use Rattle.model.specs.Sizes.{sizes, paper}
+use Rattle.model.specs.State.{byte, empty, owed, State, fresh, withTailMark, withHeadMark}
+use Rattle.model.specs.Calls.{arrival, both, idle}
+use Rattle.model.specs.Examples.{_⇒_, taken, writes, reads, takenHeld, refused, _delivering_}
+use Rattle.model.specs.Examples.{_fills_and_marks_and_, Example, slots, made_phase_tail_head_cells_blocks_}
+
+-- Q 1, b 2, K 2: one tail byte, and so a tail mark of 1.
+abbrev oneTailByte : State
+oneTailByte =
+    made (sizes 1 2 2) phase 0 tail (byte 0 65 ∷ []) head [] cells (replicate 2 empty) blocks (0 ∷ [])
+
+-- Q 2, b 2, in the phase of the moves: three head bytes of queue 0, and so a head mark of 3. The oldest cell takes
+-- one of them, and the next cell waits for the block of queue 1.
+abbrev readDue : State
+readDue =
+    made (sizes 2 2 1) phase 1 tail [] head (replicate 3 (byte 0 65)) cells (owed 0 ∷ owed 1 ∷ empty ∷ [])
+    blocks (0 ∷ 1 ∷ [])
+
+abbrev pub requestExamples : List Example
+requestExamples =
+    -- 2.8, "the tail is looked at just after the arrival joins it": before the request takes the byte, and before it is
+    -- written with its block. What was reached stays.
+    slots paper (fresh paper (sizes 1 2 2))
+    (both 0 65 0 ⇒ takenHeld 0 65 fills 0 and 0 marks 1 and 0 ∷ []) ∷
+    slots paper (fresh paper (sizes 1 2 2))
+    (arrival 0 65 ⇒ taken fills 1 and 0 marks 1 and 0 ∷
+    arrival 0 66 ⇒ writes 0 fills 0 and 0 marks 2 and 0 ∷
+    arrival 0 67 ⇒ taken fills 1 and 0 marks 2 and 0 ∷ []) ∷
+    -- "The head is looked at just after the read": the fills are 3, 2 and 4, and never 5.
+    slots paper readDue
+    (idle ⇒ reads 1 delivering byte 0 65 fills 0 and 4 marks 0 and 4 ∷ []) ∷
+    -- "On a handed-in state the mark is the greater of the old one and the new fill."
+    slots paper oneTailByte
+    (arrival 0 66 ⇒ taken fills 2 and 0 marks 2 and 0 ∷ []) ∷
+    slots paper (withTailMark 3 oneTailByte)
+    (arrival 0 66 ⇒ taken fills 2 and 0 marks 3 and 0 ∷ []) ∷
+    slots paper (withHeadMark 5 readDue)
+    (idle ⇒ reads 1 delivering byte 0 65 fills 0 and 4 marks 0 and 5 ∷ []) ∷
+    -- No arrival and no read change nothing, and neither does a refused slot.
+    slots paper (withTailMark 2 (withHeadMark 3 oneTailByte))
+    (idle ⇒ taken fills 1 and 0 marks 2 and 3 ∷
+    arrival 1 66 ⇒ refused 4 fills 1 and 0 marks 2 and 3 ∷ []) ∷ []

@@ -52,3 +52,19 @@ impl Sizes {
         self.queues * self.depth * self.block
     }
 }
+
+/// What a run writes to: an answer word for each call, the slow store, and the high marks of the state that it
+/// leaves, the tail's first.
+#[derive(Clone, PartialEq)]
+pub struct Lent {
+    pub answers: Vec<u64>,
+    pub store: Vec<u8>,
+    pub marks: [usize; 2],
+}
+
+impl Lent {
+    /// No answer and no mark looks like these, so that one left out is seen.
+    pub fn new(calls: usize, store: Vec<u8>) -> Lent {
+        Lent { answers: vec![u64::MAX; calls], store, marks: [usize::MAX; 2] }
+    }
+}

@@ -1,79 +1,101 @@
 //! The boundary to the proved library: its functions, safe to call.
 //!
-//! Each runs a whole list of slots from a fresh state of the sizes, and writes an answer word for each call.
-//! The words are those of `words`.
+//! Each runs a whole list of slots from a fresh state of the sizes, writes an answer word for each call, and leaves the
+//! high marks. The words are those of `words`.
 
-use crate::Sizes;
+use crate::{Lent, Sizes};
 
-/// A way to run a list of slots; false where the sizes are refused.
-pub type Run = fn(Sizes, &[u32], &mut [u64], &mut [u8]) -> bool;
+/// A way to run a list of slots; false where it is refused, and then nothing is written.
+pub type Run = fn(Sizes, &[u32], &mut Lent) -> bool;
 
 /// One checked slot by value for each call.
-pub fn slots(sizes: Sizes, calls: &[u32], answers: &mut [u64], store: &mut [u8]) -> bool {
-    drive(raw::drive_slots, sizes, calls, answers, store)
+pub fn slots(sizes: Sizes, calls: &[u32], lent: &mut Lent) -> bool {
+    drive(raw::drive_slots, sizes, calls, lent)
 }
 
 /// The unchecked step by value for each call.
-pub fn steps(sizes: Sizes, calls: &[u32], answers: &mut [u64], store: &mut [u8]) -> bool {
-    drive(raw::drive_steps, sizes, calls, answers, store)
+pub fn steps(sizes: Sizes, calls: &[u32], lent: &mut Lent) -> bool {
+    drive(raw::drive_steps, sizes, calls, lent)
 }
 
 /// Many slots in one call, in place.
-pub fn run(sizes: Sizes, calls: &[u32], answers: &mut [u64], store: &mut [u8]) -> bool {
-    drive(raw::drive_run, sizes, calls, answers, store)
+pub fn run(sizes: Sizes, calls: &[u32], lent: &mut Lent) -> bool {
+    drive(raw::drive_run, sizes, calls, lent)
 }
 
 /// The calls, and then so many idle slots in one call by their count, with no word for them.
-pub fn run_then_idle(
-    sizes: Sizes,
-    calls: &[u32],
-    answers: &mut [u64],
-    store: &mut [u8],
-    idle_slots: usize,
-) -> bool {
-    assert_eq!(calls.len(), answers.len());
+pub fn run_then_idle(sizes: Sizes, calls: &[u32], lent: &mut Lent, idle_slots: usize) -> bool {
+    assert_eq!(calls.len(), lent.answers.len());
+    let Sizes { queues, block, depth } = sizes;
     // Safe for the reason given in `drive`.
-    let refused = unsafe {
+    let driven = unsafe {
         raw::drive_idle(
-            sizes.queues,
-            sizes.block,
-            sizes.depth,
+            queues,
+            block,
+            depth,
             calls.as_ptr(),
             calls.len(),
-            answers.as_mut_ptr(),
-            answers.len(),
-            store.as_mut_ptr(),
-            store.len(),
+            lent.answers.as_mut_ptr(),
+            lent.answers.len(),
+            lent.store.as_mut_ptr(),
+            lent.store.len(),
             idle_slots,
         )
     };
-    refused == 0
+    marked(driven, lent)
 }
 
 /// What `drive_slots`, `drive_steps` and `drive_run` have in common.
-type Drive =
-    unsafe extern "C" fn(usize, usize, usize, *const u32, usize, *mut u64, usize, *mut u8, usize) -> u8;
+type Drive = unsafe extern "C" fn(
+    usize,
+    usize,
+    usize,
+    *const u32,
+    usize,
+    *mut u64,
+    usize,
+    *mut u8,
+    usize,
+) -> raw::Driven;
 
-fn drive(drive: Drive, sizes: Sizes, calls: &[u32], answers: &mut [u64], store: &mut [u8]) -> bool {
-    assert_eq!(calls.len(), answers.len());
+fn drive(drive: Drive, sizes: Sizes, calls: &[u32], lent: &mut Lent) -> bool {
+    assert_eq!(calls.len(), lent.answers.len());
+    let Sizes { queues, block, depth } = sizes;
     // Safe: each pointer goes with the length of its own slice; the library stays within and keeps none.
-    let refused = unsafe {
+    let driven = unsafe {
         drive(
-            sizes.queues,
-            sizes.block,
-            sizes.depth,
+            queues,
+            block,
+            depth,
             calls.as_ptr(),
             calls.len(),
-            answers.as_mut_ptr(),
-            answers.len(),
-            store.as_mut_ptr(),
-            store.len(),
+            lent.answers.as_mut_ptr(),
+            lent.answers.len(),
+            lent.store.as_mut_ptr(),
+            lent.store.len(),
         )
     };
-    refused == 0
+    marked(driven, lent)
+}
+
+/// The marks of a list that was run.
+fn marked(driven: raw::Driven, lent: &mut Lent) -> bool {
+    if driven.number != 0 {
+        return false;
+    }
+    lent.marks = [driven.tail_mark, driven.head_mark];
+    true
 }
 
 mod raw {
+    /// What a list answers: 0 with its high marks, or why it was not run.
+    #[repr(C)]
+    pub struct Driven {
+        pub number: u8,
+        pub tail_mark: usize,
+        pub head_mark: usize,
+    }
+
     extern "C" {
         pub fn drive_slots(
             queues: usize,
@@ -85,7 +107,7 @@ mod raw {
             answers_len: usize,
             store: *mut u8,
             store_len: usize,
-        ) -> u8;
+        ) -> Driven;
         pub fn drive_steps(
             queues: usize,
             block: usize,
@@ -96,7 +118,7 @@ mod raw {
             answers_len: usize,
             store: *mut u8,
             store_len: usize,
-        ) -> u8;
+        ) -> Driven;
         pub fn drive_run(
             queues: usize,
             block: usize,
@@ -107,7 +129,7 @@ mod raw {
             answers_len: usize,
             store: *mut u8,
             store_len: usize,
-        ) -> u8;
+        ) -> Driven;
         pub fn drive_idle(
             queues: usize,
             block: usize,
@@ -119,6 +141,6 @@ mod raw {
             store: *mut u8,
             store_len: usize,
             idle_slots: usize,
-        ) -> u8;
+        ) -> Driven;
     }
 }

@@ -1,5 +1,5 @@
 //! Prints how long a slot takes in natural Rust and in the proved library, over the same lists of calls and
-//! in one process, with all answers and stores compared. `--markdown` prints the table as markdown.
+//! in one process, with all answers, stores and high marks compared. `--markdown` prints the table as markdown.
 
 use std::process::exit;
 use std::time::{Duration, Instant};
@@ -7,7 +7,7 @@ use std::time::{Duration, Instant};
 use bench::library::{self, Run};
 use bench::natural;
 use bench::traffic::{prelude, Traffic};
-use bench::{Sizes, TABLE_SIZES};
+use bench::{Lent, Sizes, TABLE_SIZES};
 
 /// The library's ways to run a list, each with the slots that it is given: by value is slow.
 const WAYS: [(&str, Run, usize); 3] = [
@@ -53,42 +53,33 @@ fn main() {
             for (way, proved, slots) in WAYS {
                 let calls = &calls[..slots];
                 let times = best_times(
-                    Lent::new(sizes, slots),
-                    |lent| natural::run(sizes, calls, &mut lent.answers, &mut lent.store),
-                    |lent| proved(sizes, calls, &mut lent.answers, &mut lent.store),
+                    lent(sizes, slots),
+                    |lent| natural::run(sizes, calls, lent),
+                    |lent| proved(sizes, calls, lent),
                 );
                 row(traffic.name(), way, slots, times);
             }
         }
         let calls = &prelude(sizes);
         let times = best_times(
-            Lent::new(sizes, calls.len()),
-            |lent| natural::run_then_idle(sizes, calls, &mut lent.answers, &mut lent.store, IDLE_SLOTS),
-            |lent| library::run_then_idle(sizes, calls, &mut lent.answers, &mut lent.store, IDLE_SLOTS),
+            lent(sizes, calls.len()),
+            |lent| natural::run_then_idle(sizes, calls, lent, IDLE_SLOTS),
+            |lent| library::run_then_idle(sizes, calls, lent, IDLE_SLOTS),
         );
         row("idle", "many idle slots, by count", calls.len() + IDLE_SLOTS, times);
     }
     let sizes = TABLE_SIZES[2];
     let (natural, proved) = best_times(
-        Lent::new(sizes, 0),
-        |lent| natural::run(sizes, &[], &mut lent.answers, &mut lent.store),
-        |lent| library::run(sizes, &[], &mut lent.answers, &mut lent.store),
+        lent(sizes, 0),
+        |lent| natural::run(sizes, &[], lent),
+        |lent| library::run(sizes, &[], lent),
     );
     println!("\nEach run makes a fresh state, at the largest sizes in {natural} ns and {proved} ns.");
 }
 
-/// What a run writes to.
-#[derive(Clone, PartialEq)]
-struct Lent {
-    answers: Vec<u64>,
-    store: Vec<u8>,
-}
-
-impl Lent {
-    /// No answer looks like these, so that one left out is seen.
-    fn new(sizes: Sizes, calls: usize) -> Lent {
-        Lent { answers: vec![u64::MAX; calls], store: vec![0xa5; sizes.store()] }
-    }
+/// What a run of so many calls writes to.
+fn lent(sizes: Sizes, calls: usize) -> Lent {
+    Lent::new(calls, vec![0xa5; sizes.store()])
 }
 
 /// The best time of each side in ns, after both have said the same in every round.
@@ -128,7 +119,11 @@ fn check(natural: &Lent, proved: &Lent) {
         Some((slot, (natural, proved))) => {
             eprintln!("slot {slot}: natural Rust answers {natural:#x}, the library {proved:#x}")
         }
-        None => eprintln!("the answers agree, the stores differ"),
+        None if natural.store != proved.store => eprintln!("the answers agree, the stores differ"),
+        None => {
+            let [natural, proved] = [natural.marks, proved.marks];
+            eprintln!("the answers and the stores agree, the high marks differ: {natural:?} and {proved:?}")
+        }
     }
     exit(1);
 }

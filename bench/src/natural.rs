@@ -5,7 +5,7 @@ use std::collections::VecDeque;
 use std::hint::black_box;
 
 use crate::words::{halves, Answer};
-use crate::{Sizes, MOST_QUEUES};
+use crate::{Lent, Sizes, MOST_QUEUES};
 
 /// A place of the lookahead: what comes out when it is the oldest.
 #[derive(Clone, Copy)]
@@ -36,6 +36,9 @@ pub struct Buffer {
     /// Bytes in the tail and in the head cache, over all queues.
     tail_bytes: usize,
     head_bytes: usize,
+    /// The most bytes that each cache has held: the tail as an arrival joins it, the head as a block is read.
+    tail_mark: usize,
+    head_mark: usize,
 }
 
 impl Buffer {
@@ -48,6 +51,8 @@ impl Buffer {
             queues: vec![Queue::default(); sizes.queues],
             tail_bytes: 0,
             head_bytes: 0,
+            tail_mark: 0,
+            head_mark: 0,
         })
     }
 
@@ -117,6 +122,7 @@ impl Buffer {
         if let Some((queue, value)) = arrival {
             self.queues[queue as usize].tail.push_back(value);
             self.tail_bytes += 1;
+            self.tail_mark = self.tail_mark.max(self.tail_bytes);
         }
         // 3. The request takes the youngest cell.
         let youngest = match request {
@@ -202,29 +208,25 @@ impl Buffer {
         queue.first = (queue.first + 1) % depth;
         queue.blocks -= 1;
         self.head_bytes += block;
+        self.head_mark = self.head_mark.max(self.head_bytes);
     }
 }
 
 /// A list of slots from a fresh state, an answer word for each; false where the sizes are refused.
-pub fn run(sizes: Sizes, calls: &[u32], answers: &mut [u64], store: &mut [u8]) -> bool {
-    run_then_idle(sizes, calls, answers, store, 0)
+pub fn run(sizes: Sizes, calls: &[u32], lent: &mut Lent) -> bool {
+    run_then_idle(sizes, calls, lent, 0)
 }
 
 /// The same, and then so many idle slots, one by one and with no word for them.
-pub fn run_then_idle(
-    sizes: Sizes,
-    calls: &[u32],
-    answers: &mut [u64],
-    store: &mut [u8],
-    idle_slots: usize,
-) -> bool {
+pub fn run_then_idle(sizes: Sizes, calls: &[u32], lent: &mut Lent, idle_slots: usize) -> bool {
     let Some(mut buffer) = Buffer::new(sizes) else { return false };
-    for (&call, answer) in calls.iter().zip(answers) {
+    for (&call, answer) in calls.iter().zip(&mut lent.answers) {
         let (arrival, request) = halves(call);
-        *answer = buffer.slot(arrival, request, store).word();
+        *answer = buffer.slot(arrival, request, &mut lent.store).word();
     }
     for _ in 0..idle_slots {
-        black_box(buffer.slot(None, None, store));
+        black_box(buffer.slot(None, None, &mut lent.store));
     }
+    lent.marks = [buffer.tail_mark, buffer.head_mark];
     true
 }

@@ -1,11 +1,11 @@
-//! The library's ways and natural Rust say the same, slot by slot, and leave the same store.
+//! The library's ways and natural Rust say the same, slot by slot, and leave the same store and the same high marks.
 
 use bench::library::{self, Run};
 use bench::natural;
 use bench::rough::rough;
 use bench::traffic::{prelude, Random, Traffic};
 use bench::words::call;
-use bench::{Sizes, TABLE_SIZES};
+use bench::{Lent, Sizes, TABLE_SIZES};
 
 const WAYS: [(&str, Run); 3] = [("slots", library::slots), ("steps", library::steps), ("run", library::run)];
 
@@ -43,12 +43,11 @@ fn random_store(length: usize) -> Vec<u8> {
     Random(length as u64).bytes(length)
 }
 
-/// The answers and the store after a run. No answer looks like those put there first.
-fn outcome(run: Run, sizes: Sizes, calls: &[u32], store: &[u8]) -> (Vec<u64>, Vec<u8>) {
-    let mut answers = vec![u64::MAX; calls.len()];
-    let mut store = store.to_vec();
-    assert!(run(sizes, calls, &mut answers, &mut store), "{sizes:?} is refused");
-    (answers, store)
+/// The answers, the store and the marks after a run.
+fn outcome(run: Run, sizes: Sizes, calls: &[u32], store: &[u8]) -> Lent {
+    let mut lent = Lent::new(calls.len(), store.to_vec());
+    assert!(run(sizes, calls, &mut lent), "{sizes:?} is refused");
+    lent
 }
 
 /// Runs the list in every way, and gives the answers that all of them give.
@@ -61,12 +60,18 @@ fn agree_in(ways: &[(&str, Run)], sizes: Sizes, calls: &[u32], store: &[u8]) -> 
     let natural = outcome(natural::run, sizes, calls, store);
     for &(way, run) in ways {
         let proved = outcome(run, sizes, calls, store);
-        for (slot, (natural, proved)) in natural.0.iter().zip(&proved.0).enumerate() {
-            assert_eq!(natural, proved, "{sizes:?}, slot {slot}, natural Rust against {way}");
-        }
-        assert!(natural.1 == proved.1, "{sizes:?}, the store of natural Rust against {way}");
+        assert_same(&natural, &proved, &format!("{sizes:?}, {way}"));
     }
-    natural.0
+    natural.answers
+}
+
+/// The same answer in every slot, the same store and the same high marks.
+fn assert_same(natural: &Lent, proved: &Lent, list: &str) {
+    for (slot, (natural, proved)) in natural.answers.iter().zip(&proved.answers).enumerate() {
+        assert_eq!(natural, proved, "{list}: slot {slot} of natural Rust and of the library");
+    }
+    assert!(natural.store == proved.store, "{list}: the stores differ");
+    assert_eq!(natural.marks, proved.marks, "{list}: the high marks of natural Rust and of the library");
 }
 
 fn number(answer: u64) -> u64 {
@@ -119,9 +124,10 @@ fn a_store_that_is_too_short() {
             let store = random_store(length);
             let answers = agree_in(&checked, sizes, calls, &store);
             assert!(answers.iter().all(|&answer| answer == 2 << 35));
-            let mut lent = store.clone();
-            assert!(!library::steps(sizes, calls, &mut [0; 100], &mut lent), "steps takes a short store");
-            assert!(store == lent, "steps refuses a short store and changes it");
+            let given = Lent::new(calls.len(), store);
+            let mut lent = given.clone();
+            assert!(!library::steps(sizes, calls, &mut lent), "steps takes a short store");
+            assert!(given == lent, "steps refuses a short store and changes something");
         }
     }
 }
@@ -133,11 +139,11 @@ fn sizes_that_are_refused() {
     for (queues, block, depth) in refused.into_iter().chain(wrapped) {
         let sizes = Sizes::new(queues, block, depth);
         let calls = [call(Some((0, 1)), None); 10];
-        let store = random_store(1000);
+        let given = Lent::new(calls.len(), random_store(1000));
         for (way, run) in WAYS.into_iter().chain([("natural", natural::run as Run)]) {
-            let mut lent = store.clone();
-            assert!(!run(sizes, &calls, &mut [0; 10], &mut lent), "{way} takes {sizes:?}");
-            assert!(store == lent, "{way} refuses {sizes:?} and changes the store");
+            let mut lent = given.clone();
+            assert!(!run(sizes, &calls, &mut lent), "{way} takes {sizes:?}");
+            assert!(given == lent, "{way} refuses {sizes:?} and changes something");
         }
     }
 }
@@ -148,15 +154,44 @@ fn idle_slots_by_count() {
         let lookahead = sizes.lookahead();
         for calls in [prelude(sizes), rough(sizes, 300 + lookahead, seed as u64)] {
             for idle_slots in [0, 1, sizes.block - 1, sizes.block, lookahead, 2 * lookahead, 5000] {
-                let (mut answers, mut store) = (vec![u64::MAX; calls.len()], random_store(sizes.store()));
-                let (mut proved_answers, mut proved_store) = (answers.clone(), store.clone());
-                natural::run_then_idle(sizes, &calls, &mut answers, &mut store, idle_slots);
-                library::run_then_idle(sizes, &calls, &mut proved_answers, &mut proved_store, idle_slots);
-                assert!(answers == proved_answers, "{sizes:?}, the answers before {idle_slots} idle slots");
-                assert!(store == proved_store, "{sizes:?}, the store after {idle_slots} idle slots");
+                let mut natural = Lent::new(calls.len(), random_store(sizes.store()));
+                let mut proved = natural.clone();
+                assert!(natural::run_then_idle(sizes, &calls, &mut natural, idle_slots));
+                assert!(library::run_then_idle(sizes, &calls, &mut proved, idle_slots));
+                assert_same(&natural, &proved, &format!("{sizes:?}, {idle_slots} idle slots"));
             }
         }
     }
+}
+
+/// Request 2.8: the tail as an arrival joins it, the head as a block is read.
+#[test]
+fn the_high_marks() {
+    let marks = |sizes: Sizes, calls: &[u32]| {
+        agree(sizes, calls, &vec![0; sizes.store()]);
+        outcome(library::run, sizes, calls, &vec![0; sizes.store()]).marks
+    };
+    let small = Sizes::new(1, 2, 2);
+    assert_eq!(marks(small, &[]), [0, 0]);
+    assert_eq!(
+        marks(small, &[call(Some((0, 65)), Some(0))]),
+        [1, 0],
+        "the tail before the request takes its byte"
+    );
+    assert_eq!(
+        marks(small, &[arrival(0, 65), arrival(0, 66)]),
+        [2, 0],
+        "the tail before its block is written"
+    );
+    assert_eq!(
+        marks(small, &[arrival(0, 65), arrival(0, 66), arrival(1, 67)]),
+        [2, 0],
+        "a refused slot leaves them"
+    );
+    let stored = [arrival(0, 65), arrival(0, 66), request(0), IDLE, IDLE, IDLE, IDLE];
+    assert_eq!(marks(small, &stored[..3]), [2, 0], "the head before the read");
+    assert_eq!(marks(small, &stored[..4]), [2, 2], "the head after the read");
+    assert_eq!(marks(small, &stored), [2, 2], "they do not fall again");
 }
 
 /// The comparison would say little of lists in which nothing happens.
@@ -165,7 +200,7 @@ fn much_happens_in_the_lists() {
     let mut refusals = [0; 11];
     for sizes in small_sizes().into_iter().chain(LIMITS) {
         let store = vec![0; sizes.store()];
-        let answers = |seed| outcome(natural::run, sizes, &random_calls(sizes, seed), &store).0;
+        let answers = |seed| outcome(natural::run, sizes, &random_calls(sizes, seed), &store).answers;
         let answers = [answers(0), answers(1)].concat();
         for &answer in &answers {
             refusals[number(answer) as usize] += 1;

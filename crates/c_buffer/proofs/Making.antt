@@ -7,17 +7,16 @@ use lib.ListN.{drop}
 use Rattle.model.specs.Basics.{when}
 use Rattle.model.specs.Sizes.{sizes, paperLimits, accepts, paper, storeBytes}
 use Rattle.model.specs.State.{State, fresh, keeps}
-use Rattle.model.specs.Lists.{run, lastStore}
+use Rattle.model.specs.Lists.{run, lastState, lastStore}
 use Rattle.model.proofs.basics.Tests.{true-not-false}
 use Rattle.model.proofs.basics.Limits.{within-limits, row-within, store-within}
 use Rattle.model.proofs.one_slot.Rules.{made-accepted, keeps-holds, keeps-fresh}
 use Rattle.run_in_place.specs.Says.{wordOf}
-use Rattle.buffer.specs.declared.State as code
 use Rattle.buffer.specs.declared.Made.{Made}
-use Rattle.run_checked.specs.Says.{runLength, callsRun}
-use Rattle.buffer_runs.specs.Says.{RunSays}
+use Rattle.run_checked.specs.Says.{runLength, callsRun, RunCheckedSays}
 use Rattle.buffer.specs.Says.{stateOf, MakeSays}
-use Rattle.c_buffer.specs.Says.{DroveSays}
+use Rattle.c_buffer.specs.Says.{DrivenIs, DroveSays}
+use Rattle.c_buffer.specs.declared.Driven.{Driven}
 
 module _ {q b k : ℕ} {m : Made} (says : MakeSays q b k m) (made : m .number ≡ 0) where
   pub sizes-ok : accepts paperLimits (sizes q b k) ≡ true
@@ -46,19 +45,24 @@ sizes-refused {q} {b} {k} {m} says f = go (accepts paperLimits (sizes q b k)) (s
     go true e = absurd (f e)
     go false e = refl
 
--- A run from a made state is the list of demand 3.
-pub drove : {q b k : ℕ} {m : Made} {calls answers answers′ store store′ : List ℕ} {r : code.State}
-    → MakeSays q b k m → m .number ≡ 0 → RunSays (m .state) calls answers store r answers′ store′
-    → DroveSays q b k calls answers answers′ store store′ 0
-drove {q} {b} {k} {m} {calls} {answers} {store = store} says made ran = record {
+-- A run from a made state is the list of demand 3, and leaves the marks that it leaves.
+pub drove : {q b k : ℕ} {m : Made} {calls answers answers′ store store′ : List ℕ} {x : State} {r : Driven}
+    → MakeSays q b k m → m .number ≡ 0 → RunCheckedSays (stateOf (m .state)) calls answers store x answers′ store′
+    → DrivenIs 0 (x .tailMark) (x .headMark) r
+    → DroveSays q b k calls answers answers′ store store′ r
+drove {q} {b} {k} {m} {calls} {answers} {store = store} {x = x} says made ran left = record {
   refused = λ f. absurd (true-not-false (accepts paperLimits (sizes q b k)) ok f);
   ran = λ e. (
-    refl,
+    record {
+      number-is = left .number-is;
+      tail-mark-is = left .tail-mark-is ∙ ap (λ (y : State). y .tailMark) last-is;
+      head-mark-is = left .head-mark-is ∙ ap (λ (y : State). y .headMark) last-is;
+    },
     ran .answers-are
-        ∙ ap (λ (x : State). map wordOf (run paper x store (callsRun calls answers)) ++ drop (runLength calls
+        ∙ ap (λ (y : State). map wordOf (run paper y store (callsRun calls answers)) ++ drop (runLength calls
         answers) answers)
         fresh-is,
-    ran .store-is ∙ ap (λ (x : State). lastStore paper x store (callsRun calls answers)) fresh-is,
+    ran .store-is ∙ ap (λ (y : State). lastStore paper y store (callsRun calls answers)) fresh-is,
   );
 }
   where
@@ -67,3 +71,6 @@ drove {q} {b} {k} {m} {calls} {answers} {store = store} says made ran = record {
 
     fresh-is : stateOf (m .state) ≡ fresh paper (sizes q b k)
     fresh-is = says .fresh-is ok
+
+    last-is : x ≡ lastState paper (fresh paper (sizes q b k)) store (callsRun calls answers)
+    last-is = ran .state-is ∙ ap (λ (y : State). lastState paper y store (callsRun calls answers)) fresh-is

@@ -16,6 +16,9 @@ abbrev μ-loop : tie.MeasureT-loop
 make-requires : tie.Need-make-requires Inv-loop μ-loop
 make-requires c κs = search needs
 
+refused-requires : tie.Need-refused-requires Inv-loop μ-loop
+refused-requires c κs = search needs
+
 returns : tie.Need-returns Inv-loop μ-loop
 returns c = search needs
 
@@ -27,6 +30,9 @@ loop-holds c = search needs
 
 idle-requires : tie.Need-idle-requires Inv-loop μ-loop
 idle-requires c κs = search needs
+
+refused-requires-2 : tie.Need-refused-requires-2 Inv-loop μ-loop
+refused-requires-2 c κs = search needs
 
 same-length : tie.Need-same-length Inv-loop μ-loop
 same-length c = search needs
@@ -48,6 +54,9 @@ loop-less c =
 loop-again : tie.Need-loop-again Inv-loop μ-loop
 loop-again c = search needs
 
+finished-requires : tie.Need-finished-requires Inv-loop μ-loop
+finished-requires c κs = search needs
+
 same-length-3 : tie.Need-same-length-3 Inv-loop μ-loop
 same-length-3 c = search needs
 
@@ -64,16 +73,19 @@ drive-idle-spec =
     Inv-loop
     μ-loop
     make-requires
+    refused-requires
     returns
     run-requires
     loop-holds
     idle-requires
+    refused-requires-2
     same-length
     same-length-2
     returns-2
     sub-left
     loop-less
     loop-again
+    finished-requires
     same-length-3
     same-length-4
     returns-3)

@@ -17,6 +17,9 @@ abbrev μ-loop : tie.MeasureT-loop
 make-requires : tie.Need-make-requires Inv-loop μ-loop
 make-requires c κs = search needs
 
+refused-requires : tie.Need-refused-requires Inv-loop μ-loop
+refused-requires c κs = search needs
+
 returns : tie.Need-returns Inv-loop μ-loop
 returns c = search needs
 
@@ -88,6 +91,9 @@ loop-again c =
       loop .inv .3,
     )
 
+finished-requires : tie.Need-finished-requires Inv-loop μ-loop
+finished-requires c κs = search needs
+
 same-length : tie.Need-same-length Inv-loop μ-loop
 same-length c = search needs
 
@@ -104,6 +110,7 @@ drive-slots-spec =
     Inv-loop
     μ-loop
     make-requires
+    refused-requires
     returns
     smaller-requires
     at-rest-requires
@@ -119,6 +126,7 @@ drive-slots-spec =
     add-i
     loop-less
     loop-again
+    finished-requires
     same-length
     same-length-2
     returns-2)

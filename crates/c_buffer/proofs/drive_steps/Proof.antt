@@ -25,6 +25,9 @@ abbrev μ-loop : tie.MeasureT-loop
 make-requires : tie.Need-make-requires Inv-loop μ-loop
 make-requires c κs = search needs
 
+refused-requires : tie.Need-refused-requires Inv-loop μ-loop
+refused-requires c κs = search needs
+
 returns : tie.Need-returns Inv-loop μ-loop
 returns c = search needs
 
@@ -44,6 +47,9 @@ mul-if2 c = omega (arith, row-small (made c .make .ensures) (c .if1 .left))
 
 mul-if2-2 : tie.Need-mul-if2-2 Inv-loop μ-loop
 mul-if2-2 c = omega (arith, need-small (made c .make .ensures) (c .if1 .left))
+
+refused-requires-2 : tie.Need-refused-requires-2 Inv-loop μ-loop
+refused-requires-2 c κs = search needs
 
 returns-2 : tie.Need-returns-2 Inv-loop μ-loop
 returns-2 c = search needs
@@ -137,6 +143,9 @@ loop-again c =
       omega (arith, ap storeBytes (says .same-sizes), loop .inv .5, says .same-length),
     )
 
+finished-requires : tie.Need-finished-requires Inv-loop μ-loop
+finished-requires c κs = search needs
+
 same-length : tie.Need-same-length Inv-loop μ-loop
 same-length c = search needs
 
@@ -153,9 +162,11 @@ drive-steps-spec =
     Inv-loop
     μ-loop
     make-requires
+    refused-requires
     returns
     mul-if2
     mul-if2-2
+    refused-requires-2
     returns-2
     smaller-requires
     at-rest-requires
@@ -171,6 +182,7 @@ drive-steps-spec =
     add-i
     loop-less
     loop-again
+    finished-requires
     same-length
     same-length-2
     returns-3)

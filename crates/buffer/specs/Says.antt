@@ -3,16 +3,17 @@ use mathlib.Core.Path.{_≡_}
 use mathlib.Core.Bool.{true}
 use mathlib.Core.List.{List}
 use Prim.Native.Nat.{ℕ, _<_, _≤_}
-use lib.ListN.{length, getD, replicate}
+use lib.ListN.{length, getD}
 use Rattle.model.specs.Basics.{choose}
 use Rattle.model.specs.Sizes.{sizes, paperLimits, accepts, paper, storeBytes}
 use Rattle.model.specs.State.{State, empty, fresh, makingNumber, keeps}
 use Rattle.model.specs.Slot.{Call, Answer, slot}
 use Rattle.model.specs.Lists.{Promised}
-use Rattle.layout.specs.Lengths.{tailPlaces, headPlaces, cellPlaces, queuePlaces}
+use Rattle.layout.specs.Lengths.{cellPlaces}
 use Rattle.layout.specs.Calls.{chosenIn, deliveryIn}
 use Rattle.layout.specs.Entries.{cellOf}
 use Rattle.layout.specs.Views.{Arrays, arrays, stateIn}
+use Rattle.layout.specs.Fresh.{freshRegs, freshArrays}
 use Rattle.buffer.specs.declared.State as code
 use Rattle.buffer.specs.declared.Made.{Made}
 use Rattle.buffer.specs.declared.Slotted.{Slotted}
@@ -27,21 +28,12 @@ stateOf s = stateIn (s .regs) (arraysOf s)
 -- A fresh record, every field of it.
 abbrev pub freshState : ℕ → ℕ → ℕ → code.State
 freshState q b k = record {
-  regs = record {
-    queues = q;
-    block = b;
-    depth = k;
-    phase = 0;
-    «tail_fill» = 0;
-    «head_fill» = 0;
-    «tail_mark» = 0;
-    «head_mark» = 0;
-  };
-  tail = replicate tailPlaces 0;
-  head = replicate headPlaces 0;
-  cells = replicate cellPlaces 0;
-  firsts = replicate queuePlaces 0;
-  stored = replicate queuePlaces 0;
+  regs = freshRegs q b k;
+  tail = freshArrays .tail;
+  head = freshArrays .head;
+  cells = freshArrays .cells;
+  firsts = freshArrays .firsts;
+  stored = freshArrays .stored;
 }
 
 -- "A making of a state checks 1 only." Accepted sizes give the fresh state, the paper's and the record itself, every

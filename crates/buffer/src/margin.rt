@@ -6,7 +6,7 @@ use crate::State;
 impl State {
     // Below zero the queue is critical, at zero its head bytes are just its Owed cells, above zero it has more. Where a
     // fill is past its array, the bytes are those of the array: such a state breaks a rule, and still has a margin.
-    pub fn margin(self, queue: u8) -> i32
+    pub fn margin(self, queue: u16) -> i32
         ensures { λ r. ⌜ MarginSays (stateOf self) queue r ⌝ }
     {
         buffer_margin::margin(

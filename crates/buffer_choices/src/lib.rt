@@ -121,7 +121,7 @@ pub fn owes(state: State, queue: u8) -> bool
         state.regs.head_fill,
         state.regs.queues,
         state.regs.block,
-        queue,
+        queue as u16,
     );
     let bytes = stored_bytes(&state.stored, state.regs.queues, state.regs.block, queue);
     0 < margin + (bytes as i32)

@@ -93,13 +93,13 @@ pub fn margin<'a>(
     fill: usize,
     queues: usize,
     block: usize,
-    queue: u8,
+    queue: u16,
 ) -> i32
     requires { ⌜ (length (now head) ≡ headPlaces) × (length (now cells) ≡ cellPlaces) ⌝ }
     ensures { λ r. ⌜ r ≡ pos (countOf queue (bytesIn fill (now (head .entry))))
         -ℤ pos (owedOf queue (cellsIn (queues * (block - 1) + 1) (now (cells .entry)))) ⌝ }
 {
-    let bytes = count_of(head, minmax::smaller(fill, HEAD_PLACES), queue as u16);
+    let bytes = count_of(head, minmax::smaller(fill, HEAD_PLACES), queue);
     let owed = count_owed(cells, cells_within(queues, block), queue as u32);
     (bytes as i32) - (owed as i32)
 }

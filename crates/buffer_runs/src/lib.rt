@@ -5,9 +5,10 @@ ghost use Rattle.buffer_runs.specs.Demand.{MixedCallsMeet};
 use buffer::State;
 use layout::Chosen;
 use layout::Delivery;
+use layout::QUEUE_PLACES;
 
 // A list of slots: as many calls as there are places for their answers.
-pub fn run(mut state: State, calls: &[u32], answers: &mut [u64], store: &mut [u8]) -> State
+pub fn run(mut state: State, calls: &[u64], answers: &mut [u64], store: &mut [u8]) -> State
     ensures { λ r. ⌜ RunSays state (now (calls .entry)) (now (answers .entry)) (now (store .entry)) r
         (now (answers .exit)) (now (store .exit)) ⌝ }
 {
@@ -17,17 +18,25 @@ pub fn run(mut state: State, calls: &[u32], answers: &mut [u64], store: &mut [u8
     let mut cells = state.cells;
     let mut firsts = state.firsts;
     let mut stored = state.stored;
-    state.regs = run_checked::run(
+    let mut tails = [0; QUEUE_PLACES];
+    let mut heads = [0; QUEUE_PLACES];
+    let mut owing = [0; QUEUE_PLACES];
+    let ran = run_checked::run(
         &mut tail,
         &mut head,
         &mut cells,
         &mut firsts,
         &mut stored,
+        &mut tails,
+        &mut heads,
+        &mut owing,
         regs,
         calls,
         answers,
         store,
     );
+    let next = ran.regs;
+    state.regs = next;
     state.tail = tail;
     state.head = head;
     state.cells = cells;
@@ -57,12 +66,18 @@ pub fn idle(state: State, n: usize, store: &mut [u8]) -> Idled
     let mut cells = state.cells;
     let mut firsts = state.firsts;
     let mut stored = state.stored;
+    let mut tails = [0; QUEUE_PLACES];
+    let mut heads = [0; QUEUE_PLACES];
+    let mut owing = [0; QUEUE_PLACES];
     let stretch = run_checked::idle(
         &mut tail,
         &mut head,
         &mut cells,
         &mut firsts,
         &mut stored,
+        &mut tails,
+        &mut heads,
+        &mut owing,
         regs,
         n,
         store,

@@ -8,7 +8,7 @@ use native.Mathlib.Omega.{arith}
 use Rattle.model.specs.Basics.{All}
 use Rattle.model.specs.Sizes.{paper}
 use Rattle.model.specs.State.{State}
-use Rattle.model.specs.Slot.{Call, Answer, slot}
+use Rattle.model.specs.Slot.{Answer, slot}
 use Rattle.model.specs.Calls.{idle, idles}
 use Rattle.model.specs.Lists.{Step, stepOf, run, lastState, lastStore}
 use Rattle.model.specs.Idle.{QuietStep, quietFirst, lastAnswer}
@@ -21,11 +21,6 @@ use Rattle.layout.specs.Calls.{chosenIn, deliveryIn}
 use Rattle.layout.specs.Views.{Arrays, stateIn}
 use Rattle.slot_in_place.specs.declared.Advanced.{Advanced}
 use Rattle.slot_in_place.specs.Says.{Ready, answerIn, AdvanceSays}
-use Rattle.run_words.specs.Words.{callOf}
-use Rattle.run_words.proofs.Calling.{zero-is-idle}
-use Rattle.run_in_place.specs.declared.Called.{Called}
-use Rattle.run_in_place.specs.Says.{OneCallSays, RunInPlaceSays}
-use Rattle.run_in_place.proofs.Turns.{advancedIn, ran-one}
 use Rattle.idle_in_place.specs.declared.Passed.{Passed}
 use Rattle.idle_in_place.specs.Says.{PassSays}
 
@@ -151,12 +146,3 @@ module _ {x y : State} {store : List ℕ} {n k : ℕ} {a : Advanced} {m : Arrays
     store-is = ap (λ (b : Answer). b .store) last-is ∙ sym (last-leaves paper x store (k + 1) .1);
     ready = says .ready;
   }
-
--- A run of the one call that the number 0 is.
-pub ran-idle : {x : State} {store : List ℕ} {before after : List ℕ} {r : Called} {m : Arrays} {counts : ByQueue}
-    {store′ : List ℕ} → RunInPlaceSays x store (callOf 0 ∷ []) before after (stateIn (r .regs) m) store′
-    → Ready (r .regs) m counts store′ → OneCallSays x store (callOf 0 ∷ []) r
-    → AdvanceSays x store idle (advancedIn r) m counts store′
-ran-idle {x} {store} {r = r} {m} {counts} {store′} ran ready one =
-    subst (λ (call : Call). AdvanceSays x store call (advancedIn r) m counts store′) zero-is-idle
-    (ran-one (callOf 0) ran ready one)

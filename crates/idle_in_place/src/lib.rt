@@ -116,7 +116,7 @@ pub fn pass(
         };
     }
     let passed = count + 1;
-    let calls = [0u32; 1];
+    let calls = [0u64; 1];
     let mut answers = [0u64; 1];
     let slot = run_in_place::run_calls(
         tail,

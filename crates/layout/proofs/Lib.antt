@@ -9,7 +9,8 @@ pub mod Ranges
 pub mod Fits
 -- The rings in theirs.
 pub mod Rings
--- A state from its parts.
+-- A state from its parts, and a fresh one.
 pub mod States
+pub mod Fresh
 -- A small state and its call, read.
 pub mod Example

@@ -5,6 +5,7 @@ pub mod Lengths
 pub mod Entries
 pub mod Counts
 pub mod Views
+pub mod Fresh
 pub mod Lent
 pub mod Figures
 pub mod Example

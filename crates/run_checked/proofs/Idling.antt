@@ -1,4 +1,4 @@
--- Where no idle slot is asked for, nothing is judged and all stays as it was. Where each is refused alike, a stretch of
+-- Where no idle slot is asked for, none is tried and all stays as it was. Where each is refused alike, a stretch of
 -- them is one, it is refused, and all stays as it was.
 use mathlib.Core.Path.{_≡_, refl, ap, sym, _∙_}
 use mathlib.Core.List.{List}

@@ -1,15 +1,17 @@
 // Many slots in one call on lent arrays, whatever the arrays and the store hold: 3 and 2 are judged once, since a slot
-// that is refused leaves all as it was, and the rest is in place.
+// that is refused leaves all as it was, and the rest is in place. The counts by queue are lent too, and are left right.
 ghost use mathlib.Core.Path.{_≡_};
 ghost use mathlib.Core.List.{_++_};
 ghost use Prim.Native.Nat.{_≤_};
 ghost use lib.ListN.{length, drop, replicate};
-ghost use Rattle.layout.specs.Lent.{given, found, left};
+ghost use Rattle.layout.specs.Lent.{given, found, left, countsFound, countsLeft};
 ghost use Rattle.layout.specs.Views.{Long, stateIn};
+ghost use Rattle.slot_checked.specs.Says.{judgedNumber, LeaveSays};
 ghost use Rattle.run_checked.specs.Says.{RunCheckedSays, IdleCheckedSays};
 use idle_in_place::Passed;
 use layout::CellArray;
 use layout::Chosen;
+use layout::CountArray;
 use layout::Delivery;
 use layout::HeadArray;
 use layout::Regs;
@@ -28,6 +30,12 @@ fn fill(answers: &mut [u64], n: usize, word: u64)
     }
 }
 
+// Where a run leaves the registers, and 0, or the number that each of its slots answers.
+pub struct Ran {
+    pub regs: Regs,
+    pub number: u8,
+}
+
 // Many slots, of any state and any store: as many calls as there are places for their answers.
 pub fn run(
     tail: &mut TailArray,
@@ -35,19 +43,35 @@ pub fn run(
     cells: &mut CellArray,
     firsts: &mut RingArray,
     stored: &mut RingArray,
+    tails: &mut CountArray,
+    heads: &mut CountArray,
+    owing: &mut CountArray,
     regs: Regs,
-    calls: &[u32],
+    calls: &[u64],
     answers: &mut [u64],
     store: &mut [u8],
-) -> Regs
+) -> Ran
     requires { ⌜ Long (given tail head cells firsts stored) ⌝ }
     ensures { λ r. ⌜ RunCheckedSays (stateIn regs (found tail head cells firsts stored))
         (now (calls .entry)) (now (answers .entry)) (now (store .entry))
-        (stateIn r (left tail head cells firsts stored)) (now (answers .exit)) (now (store .exit)) ⌝ }
+        (stateIn (r .regs) (left tail head cells firsts stored)) (now (answers .exit)) (now (store .exit))
+        × (r .number ≡ judgedNumber regs (found tail head cells firsts stored) (now (store .entry)))
+        × LeaveSays regs (found tail head cells firsts stored) (countsFound tails heads owing) (now (store .entry))
+        (r .regs) (left tail head cells firsts stored) (countsLeft tails heads owing) (now (store .exit)) ⌝ }
 {
     let n = minmax::smaller(calls.len(), answers.len());
-    let judged = slot_rules::judge_rules(tail, head, cells, firsts, stored, regs);
-    let number = slot_checked::state_number(judged.kept, regs, store.len());
+    let number = slot_checked::judge_state(
+        tail,
+        head,
+        cells,
+        firsts,
+        stored,
+        tails,
+        heads,
+        owing,
+        regs,
+        store.len(),
+    );
     if number != 0 {
         let word = run_words::answer_word(
             number,
@@ -56,44 +80,65 @@ pub fn run(
             Chosen::Nothing,
         );
         fill(answers, n, word);
-        return regs;
+        return Ran {
+            regs: regs,
+            number: number,
+        };
     }
-    let mut tails = judged.tails;
-    let mut heads = judged.heads;
-    let mut owing = judged.owing;
     let ran = run_in_place::run_calls(
         tail,
         head,
         cells,
         firsts,
         stored,
-        &mut tails,
-        &mut heads,
-        &mut owing,
+        tails,
+        heads,
+        owing,
         regs,
         &calls[..n],
         answers,
         store,
     );
-    ran.regs
+    let next = ran.regs;
+    Ran {
+        regs: next,
+        number: 0,
+    }
 }
 
 // One stretch of at most n idle slots, of any state and any store. Where the state breaks the rules or the store is too
-// short, it is one slot, and that is refused; no slot at all is not judged.
+// short, it is one slot, and that is refused; no slot at all is never refused.
 pub fn idle(
     tail: &mut TailArray,
     head: &mut HeadArray,
     cells: &mut CellArray,
     firsts: &mut RingArray,
     stored: &mut RingArray,
+    tails: &mut CountArray,
+    heads: &mut CountArray,
+    owing: &mut CountArray,
     regs: Regs,
     n: usize,
     store: &mut [u8],
 ) -> Passed
     requires { ⌜ Long (given tail head cells firsts stored) ⌝ }
     ensures { λ r. ⌜ IdleCheckedSays (stateIn regs (found tail head cells firsts stored)) (now (store .entry)) n r
-        (stateIn (r .regs) (left tail head cells firsts stored)) (now (store .exit)) ⌝ }
+        (stateIn (r .regs) (left tail head cells firsts stored)) (now (store .exit))
+        × LeaveSays regs (found tail head cells firsts stored) (countsFound tails heads owing) (now (store .entry))
+        (r .regs) (left tail head cells firsts stored) (countsLeft tails heads owing) (now (store .exit)) ⌝ }
 {
+    let number = slot_checked::judge_state(
+        tail,
+        head,
+        cells,
+        firsts,
+        stored,
+        tails,
+        heads,
+        owing,
+        regs,
+        store.len(),
+    );
     if n == 0 {
         return Passed {
             regs: regs,
@@ -104,8 +149,6 @@ pub fn idle(
             read: Chosen::Nothing,
         };
     }
-    let judged = slot_rules::judge_rules(tail, head, cells, firsts, stored, regs);
-    let number = slot_checked::state_number(judged.kept, regs, store.len());
     if number != 0 {
         return Passed {
             regs: regs,
@@ -116,18 +159,15 @@ pub fn idle(
             read: Chosen::Nothing,
         };
     }
-    let mut tails = judged.tails;
-    let mut heads = judged.heads;
-    let mut owing = judged.owing;
     idle_in_place::pass(
         tail,
         head,
         cells,
         firsts,
         stored,
-        &mut tails,
-        &mut heads,
-        &mut owing,
+        tails,
+        heads,
+        owing,
         regs,
         n,
         store,

@@ -2,19 +2,17 @@
 -- it was, and state and store are as those calls leave them. One call more is one slot more.
 use mathlib.Core.Path.{_≡_, refl, ap, sym, _∙_, subst}
 use mathlib.Core.List.{List, [], _∷_, _++_, map, map-append}
-use mathlib.Core.Option.{Option}
 use Prim.Native.Nat.{ℕ, _+_, _<_, _≤_}
 use native.Mathlib.Omega.{arith}
 use native.Mathlib.Numerals.{add-one}
 use lib.ListN.{length, take, drop, set, getD, length-map, length-drop, List·getD-map}
 use lib.Seq.{take-length, take-suc, length-take-le, drop-drop}
 use Rattle.model.specs.Sizes.{paper}
-use Rattle.model.specs.State.{Byte, State}
+use Rattle.model.specs.State.{State}
 use Rattle.model.specs.Slot.{Call, Answer, slot}
 use Rattle.model.specs.Lists.{stepOf, run, lastState, lastStore}
 use Rattle.model.proofs.one_slot.Rules.{keeps-facts}
 use Rattle.model.proofs.one_slot.Kept.{slot-kept}
-use Rattle.model.proofs.one_slot.Calls.{answer-is}
 use Rattle.model.proofs.one_slot.Lists.{last-append, last-store-append, run-append, run-length}
 use Rattle.layout.specs.Counts.{ByQueue}
 use Rattle.layout.specs.Calls.{chosenIn, arrivalIn, requestIn, deliveryIn, callIn}
@@ -22,21 +20,12 @@ use Rattle.layout.specs.declared.Regs.{Regs}
 use Rattle.layout.specs.declared.Arrival.{Arrival}
 use Rattle.layout.specs.declared.Request.{Request}
 use Rattle.layout.specs.Views.{Arrays, stateIn}
-use Rattle.slot_in_place.specs.declared.Advanced.{Advanced}
-use Rattle.slot_in_place.specs.Says.{Ready, answerIn, AdvanceSays}
-use Rattle.run_words.specs.Words.{callOf, answerWord}
+use Rattle.slot_in_place.specs.Says.{Ready, answerIn, AdvanceSays, AsGiven}
+use Rattle.run_words.specs.Words.{callOf, answerWord, nearByte, nearQueue}
+use Rattle.run_words.proofs.Nearest.{read-slot}
 use Rattle.run_in_place.specs.declared.Called.{Called}
-use Rattle.run_in_place.specs.Says.{wordOf, AnswerOfCall, OneCallSays, CalledSays, RunInPlaceSays}
-
--- The answer of a call as that of a slot in place.
-abbrev pub advancedIn : Called → Advanced
-advancedIn r = record {
-  regs = r .regs;
-  number = r .number;
-  delivery = r .delivery;
-  written = r .written;
-  read = r .read;
-}
+use Rattle.run_in_place.specs.Says.{wordOf, advancedIn, CalledSays, OneSlotSays}
+use Rattle.run_in_place.specs.Says.{OneCallSays, RunInPlaceSays}
 
 -- The run before call i.
 pub record RunTo (i : ℕ) (x : State) (store : List ℕ) (calls : List Call) (before after : List ℕ) (state : State)
@@ -72,10 +61,10 @@ module _ {i : ℕ} {x : State} {store : List ℕ} {calls : List Call} {before af
       }
 
   module _ (d : Call) {call : Call} (is-call : getD calls i d ≡ call) (more : i < length calls)
-      (room : length calls ≤ length before) {r : Called} {m : Arrays} {counts : ByQueue} {store″ : List ℕ}
-      (s : CalledSays state store′ call r m counts store″) where
-    now : CalledSays state store′ (getD calls i d) r m counts store″
-    now = subst (λ (k : Call). CalledSays state store′ k r m counts store″) (sym is-call) s
+      (room : i < length before) {a : Answer} (is-slot : a ≡ slot paper state store′ call) {told : ℕ}
+      (is-word : told ≡ wordOf (stepOf state store′ call (slot paper state store′ call))) where
+    answer : a ≡ slot paper state store′ (getD calls i d)
+    answer = is-slot ∙ ap (slot paper state store′) (sym is-call)
 
     one-more : take (i + 1) calls ≡ take i calls ++ getD calls i d ∷ []
     one-more = rw add-one (take-suc calls i d more)
@@ -98,9 +87,12 @@ module _ {i : ℕ} {x : State} {store : List ℕ} {calls : List Call} {before af
         ∙ run-length paper x store (take i calls)
         ∙ length-take-le i calls (w .within)
 
-    word-now : r .word ≡ word y z
+    word-now : told ≡ word y z
     word-now =
-        now .word-is ∙ ap (λ (s : State). word s store′) (w .state-is) ∙ ap (λ (t : List ℕ). word y t) (w .store-is)
+        is-word
+        ∙ ap (λ (c : Call). wordOf (stepOf state store′ c (slot paper state store′ c))) (sym is-call)
+        ∙ ap (λ (s : State). word s store′) (w .state-is)
+        ∙ ap (λ (t : List ℕ). word y t) (w .store-is)
 
     front-now : map wordOf (run paper x store (take (i + 1) calls)) ≡ front ++ word y z ∷ []
     front-now =
@@ -108,117 +100,102 @@ module _ {i : ℕ} {x : State} {store : List ℕ} {calls : List Call} {before af
         ∙ ap (map wordOf) (run-append paper x store (take i calls) (getD calls i d ∷ []))
         ∙ map-append wordOf (run paper x store (take i calls)) (run paper y z (getD calls i d ∷ []))
 
-    stored : set after i (r .word) ≡ (front ++ r .word ∷ []) ++ drop (i + 1) before
+    stored : set after i told ≡ (front ++ told ∷ []) ++ drop (i + 1) before
     stored =
-        ap (λ (l : List ℕ). set l i (r .word)) (w .answers-are)
-        ∙ ap (λ (n : ℕ). set (front ++ drop i before) n (r .word)) (sym front-long)
-        ∙ set-behind front (drop i before) (r .word) (omega (arith, length-drop i before))
-        ∙ ap (λ (l : List ℕ). (front ++ r .word ∷ []) ++ l) (drop-drop 1 i before)
+        ap (λ (l : List ℕ). set l i told) (w .answers-are)
+        ∙ ap (λ (n : ℕ). set (front ++ drop i before) n told) (sym front-long)
+        ∙ set-behind front (drop i before) told (omega (arith, length-drop i before))
+        ∙ ap (λ (l : List ℕ). (front ++ told ∷ []) ++ l) (drop-drop 1 i before)
 
-    pub run-turn : RunTo (i + 1) x store calls before (set after i (r .word)) (stateIn (r .regs) m) store″
+    pub run-turn : RunTo (i + 1) x store calls before (set after i told) (a .state) (a .store)
     run-turn = record {
       within = omega arith;
       answers-are = stored
           ∙ ap (λ (n : ℕ). (front ++ n ∷ []) ++ drop (i + 1) before) word-now
           ∙ ap (λ (l : List ℕ). l ++ drop (i + 1) before) (sym front-now);
-      state-is = now .state-is
+      state-is = ap (λ (b : Answer). b .state) answer
           ∙ ap (λ (s : State). slot paper s store′ (getD calls i d) .state) (w .state-is)
           ∙ ap (λ (t : List ℕ). slot paper y t (getD calls i d) .state) (w .store-is)
           ∙ sym (last-append paper x store (take i calls) (getD calls i d ∷ []))
           ∙ ap (lastState paper x store) (sym one-more);
-      store-is = now .store-is
+      store-is = ap (λ (b : Answer). b .store) answer
           ∙ ap (λ (s : State). slot paper s store′ (getD calls i d) .store) (w .state-is)
           ∙ ap (λ (t : List ℕ). slot paper y t (getD calls i d) .store) (w .store-is)
           ∙ sym (last-store-append paper x store (take i calls) (getD calls i d ∷ []))
           ∙ ap (lastStore paper x store) (sym one-more);
     }
 
-abbrev callOf′ : Option Byte → Option ℕ → Call
-callOf′ a q = record { arrival = a; request = q }
-
 -- The call of a turn, as the list of calls has it.
 pub call-at : (calls : List ℕ) (i : ℕ) → getD (map callOf calls) i (callOf 0) ≡ callOf (getD calls i 0)
 call-at calls i = List·getD-map callOf calls i 0
 
--- A slot whose call and answer are numbers is the slot.
-pub called : {x : State} {store : List ℕ} (call : Call) (arrival : Arrival) (request : Request) {a : Advanced}
-    {m : Arrays} {counts : ByQueue} {store′ : List ℕ} (r : Called)
-    → AdvanceSays x store (callIn arrival request) a m counts store′
-    → arrivalIn arrival ≡ call .arrival → requestIn request ≡ call .request
-    → r .regs ≡ a .regs → r .number ≡ a .number → r .delivery ≡ a .delivery → r .written ≡ a .written
-    → r .read ≡ a .read
-    → r .word ≡ answerWord (a .number) (deliveryIn (a .delivery)) (chosenIn (a .written)) (chosenIn (a .read))
+-- A slot whose call and answer are numbers is the slot: the code's values have the nearest queues, which a slot answers
+-- alike.
+pub called : {x : State} {store : List ℕ} (call : Call) (arrival : Arrival) (request : Request) {m : Arrays}
+    {counts : ByQueue} {store′ : List ℕ} (r : Called)
+    → AdvanceSays x store (callIn arrival request) (advancedIn r) m counts store′
+    → arrivalIn arrival ≡ nearByte (call .arrival) → requestIn request ≡ nearQueue (call .request)
+    → r .word ≡ answerWord (r .number) (deliveryIn (r .delivery)) (chosenIn (r .written)) (chosenIn (r .read))
     → CalledSays x store call r m counts store′
-called {x} {store} call arrival request {a} {m} {counts} {store′} r s ea er es en ed ev eb ew = record {
-  answer-is = record {
-    number-is = en ∙ ap (λ (b : Answer). b .number) answer;
-    delivered-is = ap deliveryIn ed ∙ ap (λ (b : Answer). b .delivered) answer;
-    written-is = ap chosenIn ev ∙ ap (λ (b : Answer). b .written) answer;
-    read-is = ap chosenIn eb ∙ ap (λ (b : Answer). b .read) answer;
-  };
+called {x} {store} call arrival request {m} {counts} {store′} r s ea er ew = record {
+  slot-is = record { answer-is = answer; ready = s .ready };
   word-is = ew ∙ ap (λ (b : Answer). answerWord (b .number) (b .delivered) (b .written) (b .read)) answer;
-  state-is = ap (λ (n : Regs). stateIn n m) es ∙ ap (λ (b : Answer). b .state) answer;
-  store-is = ap (λ (b : Answer). b .store) answer;
-  ready = subst (λ (n : Regs). Ready n m counts store′) (sym es) (s .ready);
 }
   where
-    same-call : callIn arrival request ≡ call
-    same-call =
-        ap (λ (o : Option Byte). callOf′ o (requestIn request)) ea ∙ ap (λ (o : Option ℕ). callOf′ (call .arrival) o) er
+    answer : answerIn (advancedIn r) m store′ ≡ slot paper x store call
+    answer = s .answer-is ∙ read-slot x store call ea er
 
-    answer : answerIn a m store′ ≡ slot paper x store call
-    answer = s .answer-is ∙ ap (slot paper x store) same-call
+-- The first slot of a run, as long as no other has come: before it all is as it was given, behind it is the slot.
+pub record FirstTo (i : ℕ) (regs : Regs) (m : Arrays) (store : List ℕ) (first-call : Call) (r : Called) (m′ : Arrays)
+    (counts : ByQueue) (store′ : List ℕ) : Type 0 where
+  pub none-yet : i ≡ 0 → (r .regs ≡ regs) × (m′ ≡ m) × (store′ ≡ store)
+  pub first : i ≡ 1 → OneSlotSays regs m store first-call r m′ counts store′
 
--- The first slot of a run, as long as no other has come.
-pub record FirstTo (i : ℕ) (x : State) (store : List ℕ) (calls : List Call) (d : Call) (r : Called) : Type 0 where
-  pub first : i ≡ 1 → AnswerOfCall x store (getD calls 0 d) r
+pub no-first : {regs : Regs} {m : Arrays} {store : List ℕ} {call : Call} {r : Called} {counts : ByQueue}
+    → r .regs ≡ regs → FirstTo 0 regs m store call r m counts store
+no-first same = record { none-yet = λ e. (same, refl, refl); first = λ e. absurd (omega (arith, e)) }
 
-pub no-first : {x : State} {store : List ℕ} {calls : List Call} {d : Call} {r : Called} → FirstTo 0 x store calls d r
-no-first = record { first = λ e. absurd (omega (arith, e)) }
+module _ (calls : List Call) (d : Call) {i : ℕ} {regs : Regs} {m : Arrays} {store : List ℕ} {r : Called} {m′ : Arrays}
+    {counts : ByQueue} {store′ : List ℕ} (f : FirstTo i regs m store (getD calls 0 d) r m′ counts store′) where
+  pub first-turn : {call : Call} → getD calls i d ≡ call → {r′ : Called} {m″ : Arrays} {counts′ : ByQueue}
+      {store″ : List ℕ} → CalledSays (stateIn (r .regs) m′) store′ call r′ m″ counts′ store″
+      → AsGiven (r .regs) m′ (advancedIn r′) m″
+      → FirstTo (i + 1) regs m store (getD calls 0 d) r′ m″ counts′ store″
+  first-turn {call} is-call {r′} {m″} {counts′} {store″} says given = record {
+    none-yet = λ e. absurd (omega (arith, e));
+    first = λ e. at-zero (omega (arith, e));
+  }
+    where
+      Slot : Regs → Arrays → List ℕ → Call → Type 0
+      Slot n k t c = OneSlotSays n k t c r′ m″ counts′ store″
 
-pub first-turn : {i : ℕ} {x : State} {store : List ℕ} {calls : List Call} {before after : List ℕ} {state : State}
-    {store′ : List ℕ} → RunTo i x store calls before after state store′ → (d : Call) {call : Call}
-    → getD calls i d ≡ call → {r : Called} → AnswerOfCall state store′ call r → FirstTo (i + 1) x store calls d r
-first-turn {i} {x} {store} {calls} {before} {after} {state} {store′} w d {call} is-call {r} a = record {
-  first = λ e. at-zero (omega (arith, e));
-}
-  where
-    at-zero : i ≡ 0 → AnswerOfCall x store (getD calls 0 d) r
-    at-zero z =
-        subst (λ (y : State). AnswerOfCall y store (getD calls 0 d) r)
-        (w .state-is ∙ ap (λ (n : ℕ). lastState paper x store (take n calls)) z)
-        (subst (λ (t : List ℕ). AnswerOfCall state t (getD calls 0 d) r)
-        (w .store-is ∙ ap (λ (n : ℕ). lastStore paper x store (take n calls)) z)
-        (subst (λ (c : Call). AnswerOfCall state store′ c r)
-        (sym is-call ∙ ap (λ (n : ℕ). getD calls n d) z) a))
+      at-zero : i ≡ 0 → Slot regs m store (getD calls 0 d)
+      at-zero z =
+          subst (λ (n : Regs). Slot n m store (getD calls 0 d)) (f .none-yet z .0)
+          (subst (λ (k : Arrays). Slot (r .regs) k store (getD calls 0 d)) (f .none-yet z .1)
+          (subst (λ (t : List ℕ). Slot (r .regs) m′ t (getD calls 0 d)) (f .none-yet z .2)
+          (subst (λ (c : Call). Slot (r .regs) m′ store′ c) (sym is-call ∙ ap (λ (n : ℕ). getD calls n d) z)
+          (record { slot-is = says .slot-is; as-given = given }))))
 
-pub first-is-all : {i : ℕ} {x : State} {store : List ℕ} {calls : List Call} {before after : List ℕ} {state : State}
-    {store′ : List ℕ} {d : Call} {r : Called} → RunTo i x store calls before after state store′
-    → FirstTo i x store calls d r → length calls ≤ i → OneCallSays x store calls r
-first-is-all {i} {x} {store} {calls} {d = d} {r = r} w f last call e =
-    let one : length calls ≡ 1 = ap length e in
-    subst (λ (c : Call). AnswerOfCall x store c r) (ap (λ (l : List Call). getD l 0 d) e)
-    (f .first (omega (arith, one, last, w .within)))
+  pub first-is-all : i ≡ length calls → OneCallSays regs m store calls r m′ counts store′
+  first-is-all all call e =
+      subst (λ (c : Call). OneSlotSays regs m store c r m′ counts store′) (ap (λ (l : List Call). getD l 0 d) e)
+      (f .first (all ∙ ap length e))
 
--- A run of one call is its slot.
-pub ran-one : {x : State} {store : List ℕ} (call : Call) {before after : List ℕ} {r : Called} {m : Arrays}
-    {counts : ByQueue} {store′ : List ℕ} → RunInPlaceSays x store (call ∷ []) before after (stateIn (r .regs) m) store′
-    → Ready (r .regs) m counts store′ → OneCallSays x store (call ∷ []) r
-    → AdvanceSays x store call (advancedIn r) m counts store′
-ran-one {x} {store} call {r = r} {m} {counts} {store′} ran ready one =
-    let a = one call refl in
-    record {
-      answer-is =
-          answer-is (slot paper x store call) (answerIn (advancedIn r) m store′) (a .number-is) (a .delivered-is)
-          (a .written-is) (a .read-is) (ran .state-is) (ran .store-is);
-      ready = ready;
-    }
+-- A run of one word is the slot of the call that the word stands for.
+pub ran-call : {regs : Regs} {m : Arrays} {store : List ℕ} (word : ℕ) {call : Call} {r : Called} {m′ : Arrays}
+    {counts : ByQueue} {store′ : List ℕ} → callOf word ≡ call
+    → OneCallSays regs m store (callOf word ∷ []) r m′ counts store′
+    → AdvanceSays (stateIn regs m) store call (advancedIn r) m′ counts store′
+ran-call {regs} {m} {store} word {r = r} {m′} {counts} {store′} is-call one =
+    subst (λ (c : Call). AdvanceSays (stateIn regs m) store c (advancedIn r) m′ counts store′) is-call
+    (one (callOf word) refl .slot-is)
 
 -- A slot keeps the store's length.
 pub store-kept : {regs : Regs} {m : Arrays} {counts : ByQueue} {store : List ℕ} {call : Call} {r : Called} {m′ : Arrays}
     {counts′ : ByQueue} {store′ : List ℕ} → Ready regs m counts store
     → CalledSays (stateIn regs m) store call r m′ counts′ store′ → length store′ ≡ length store
 store-kept {regs} {m} {counts} {store} {call} v s =
-    ap length (s .store-is)
+    ap (λ (a : Answer). length (a .store)) (s .slot-is .answer-is)
     ∙ slot-kept paper (stateIn regs m) store call (omega arith) (keeps-facts paper (stateIn regs m) (v .kept))
     .same-length

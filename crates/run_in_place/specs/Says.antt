@@ -8,9 +8,10 @@ use Rattle.model.specs.State.{State}
 use Rattle.model.specs.Slot.{Call, slot}
 use Rattle.model.specs.Lists.{Step, run, lastState, lastStore}
 use Rattle.layout.specs.Counts.{ByQueue}
-use Rattle.layout.specs.Calls.{chosenIn, deliveryIn}
+use Rattle.layout.specs.declared.Regs.{Regs}
 use Rattle.layout.specs.Views.{Arrays, stateIn}
-use Rattle.slot_in_place.specs.Says.{Ready}
+use Rattle.slot_in_place.specs.declared.Advanced.{Advanced}
+use Rattle.slot_in_place.specs.Says.{AdvanceSays, AsGiven}
 use Rattle.run_words.specs.Words.{answerWord}
 use Rattle.run_in_place.specs.declared.Called.{Called}
 
@@ -18,27 +19,33 @@ use Rattle.run_in_place.specs.declared.Called.{Called}
 abbrev pub wordOf : Step → ℕ
 wordOf step = answerWord (step .number) (step .delivered) (step .written) (step .read)
 
--- What a slot answers beside its word.
-pub record AnswerOfCall (x : State) (store : List ℕ) (call : Call) (r : Called) : Type 0 where
-  pub number-is : r .number ≡ slot paper x store call .number
-  pub delivered-is : deliveryIn (r .delivery) ≡ slot paper x store call .delivered
-  pub written-is : chosenIn (r .written) ≡ slot paper x store call .written
-  pub read-is : chosenIn (r .read) ≡ slot paper x store call .read
+-- What a slot of a run hands back beside its word, as the slot in place does.
+abbrev pub advancedIn : Called → Advanced
+advancedIn r = record {
+  regs = r .regs;
+  number = r .number;
+  delivery = r .delivery;
+  written = r .written;
+  read = r .read;
+}
 
--- A run of one call answers what its slot does.
-abbrev pub OneCallSays : State → List ℕ → List Call → Called → Type 0
-OneCallSays x store calls r = (call : Call) → calls ≡ call ∷ [] → AnswerOfCall x store call r
-
--- One slot of a run.
+-- One slot of a run: the slot in place, and its answer as one number.
 pub record CalledSays (x : State) (store : List ℕ) (call : Call) (r : Called) (m : Arrays)
     (counts : ByQueue) (store′ : List ℕ) : Type 0 where
-  pub answer-is : AnswerOfCall x store call r
+  pub slot-is : AdvanceSays x store call (advancedIn r) m counts store′
   pub word-is : r .word
       ≡ answerWord (slot paper x store call .number) (slot paper x store call .delivered)
       (slot paper x store call .written) (slot paper x store call .read)
-  pub state-is : stateIn (r .regs) m ≡ slot paper x store call .state
-  pub store-is : store′ ≡ slot paper x store call .store
-  pub ready : Ready (r .regs) m counts store′
+
+-- A run of one call is the slot in place: on a refusal the registers and the arrays are as they came.
+pub record OneSlotSays (regs : Regs) (m : Arrays) (store : List ℕ) (call : Call) (r : Called) (m′ : Arrays)
+    (counts : ByQueue) (store′ : List ℕ) : Type 0 where
+  pub slot-is : AdvanceSays (stateIn regs m) store call (advancedIn r) m′ counts store′
+  pub as-given : AsGiven regs m (advancedIn r) m′
+
+abbrev pub OneCallSays : Regs → Arrays → List ℕ → List Call → Called → Arrays → ByQueue → List ℕ → Type 0
+OneCallSays regs m store calls r m′ counts store′ =
+    (call : Call) → calls ≡ call ∷ [] → OneSlotSays regs m store call r m′ counts store′
 
 -- The whole list: an answer for each slot, refused ones included, what lies behind them as it was; state and store as
 -- the list leaves them.

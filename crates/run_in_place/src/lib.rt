@@ -5,9 +5,9 @@ ghost use Prim.Native.Nat.{_≤_};
 ghost use lib.ListN.{length};
 ghost use Rattle.layout.specs.Lent.{given, found, left, countsGiven, countsLeft};
 ghost use Rattle.layout.specs.Views.{stateIn};
-ghost use Rattle.slot_in_place.specs.Says.{Ready};
+ghost use Rattle.slot_in_place.specs.Says.{Ready, AsGiven};
 ghost use Rattle.run_words.specs.Words.{callOf};
-ghost use Rattle.run_in_place.specs.Says.{CalledSays, RunInPlaceSays, OneCallSays};
+ghost use Rattle.run_in_place.specs.Says.{advancedIn, CalledSays, RunInPlaceSays, OneCallSays};
 use layout::CellArray;
 use layout::Chosen;
 use layout::CountArray;
@@ -38,7 +38,7 @@ pub fn answer_call(
     heads: &mut CountArray,
     owing: &mut CountArray,
     regs: Regs,
-    call: u32,
+    call: u64,
     store: &mut [u8],
 ) -> Called
     requires { ⌜ Ready regs (given tail head cells firsts stored)
@@ -47,7 +47,8 @@ pub fn answer_call(
         (stateIn regs (found tail head cells firsts stored))
         (now (store .entry)) (callOf call) r
         (left tail head cells firsts stored)
-        (countsLeft tails heads owing) (now (store .exit)) ⌝ }
+        (countsLeft tails heads owing) (now (store .exit))
+        × AsGiven regs (found tail head cells firsts stored) (advancedIn r) (left tail head cells firsts stored) ⌝ }
 {
     let arrival = run_words::arrival_in(call);
     let request = run_words::request_in(call);
@@ -81,9 +82,8 @@ pub fn answer_call(
     }
 }
 
-// The slots of all calls, in order, and what the last of them answered. But for scripts, which print after each slot, it
-// is the only caller of the slot in place, so that the compiler puts the slot into its loop; whoever wants one slot runs
-// one call.
+// The slots of all calls, in order, and what the last of them answered. It is the only caller of the slot in place, so
+// that the compiler puts the slot into its loop; whoever wants one slot runs one call.
 pub fn run_calls(
     tail: &mut TailArray,
     head: &mut HeadArray,
@@ -94,7 +94,7 @@ pub fn run_calls(
     heads: &mut CountArray,
     owing: &mut CountArray,
     regs: Regs,
-    calls: &[u32],
+    calls: &[u64],
     answers: &mut [u64],
     store: &mut [u8],
 ) -> Called
@@ -108,8 +108,9 @@ pub fn run_calls(
         (now (store .exit))
         × Ready (r .regs) (left tail head cells firsts stored)
         (countsLeft tails heads owing) (now (store .exit))
-        × OneCallSays (stateIn regs (found tail head cells firsts stored)) (now (store .entry))
-        (map callOf (now (calls .entry))) r ⌝ }
+        × OneCallSays regs (found tail head cells firsts stored) (now (store .entry))
+        (map callOf (now (calls .entry))) r
+        (left tail head cells firsts stored) (countsLeft tails heads owing) (now (store .exit)) ⌝ }
 {
     let mut last = Called {
         regs: regs,

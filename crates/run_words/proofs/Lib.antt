@@ -1,4 +1,5 @@
 -- Laws of words, and the proofs of the functions.
 pub mod Bits
 pub mod Calling
+pub mod Nearest
 pub mod RoundTrip

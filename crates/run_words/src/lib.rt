@@ -3,76 +3,87 @@
 ghost use mathlib.Core.Path.{_≡_};
 ghost use Prim.Native.Nat.{_<_};
 ghost use Rattle.layout.specs.Calls.{chosenIn, arrivalIn, requestIn, deliveryIn, callIn};
-ghost use Rattle.run_words.specs.Words.{byteWord, queueWord, byteIn, queueIn, callOf};
+ghost use Rattle.run_words.specs.Words.{callQueues, answerQueues, byteWord, queueWord, byteIn, queueIn, callOf};
 ghost use Rattle.run_words.specs.Words.{answerWord, numberOf, deliveredOf, writtenOf, readOf};
+ghost use Rattle.run_words.specs.Words.{nearest, nearByte, nearQueue};
 use layout::Arrival;
 use layout::Chosen;
 use layout::Delivery;
 use layout::Request;
 
-// An arrival as 17 bits.
-fn arrival_bits(arrival: Arrival) -> u32
-    ensures { λ r. ⌜ (r < 131072) × (byteIn r ≡ arrivalIn arrival) ⌝ }
+// The queue of 8 bits that is nearest to one of more.
+fn near_queue(queue: u64) -> u8
+    ensures { λ r. ⌜ r ≡ nearest queue ⌝ }
+{
+    if queue < 255 {
+        return queue as u8;
+    }
+    255
+}
+
+// An arrival as 25 bits.
+fn arrival_bits(arrival: Arrival) -> u64
+    ensures { λ r. ⌜ (r < 33554432) × (byteIn callQueues r ≡ arrivalIn arrival) ⌝ }
 {
     match arrival {
-        Arrival::Comes(q, v) => 65536 + (q as u32) * 256 + (v as u32),
+        Arrival::Comes(q, v) => 16777216 + (q as u64) * 256 + (v as u64),
         Arrival::NoArrival => 0,
     }
 }
 
-// A request as 9 bits.
-fn request_bits(request: Request) -> u32
-    ensures { λ r. ⌜ (r < 512) × (queueIn r ≡ requestIn request) ⌝ }
+// A request as 17 bits.
+fn request_bits(request: Request) -> u64
+    ensures { λ r. ⌜ (r < 131072) × (queueIn callQueues r ≡ requestIn request) ⌝ }
 {
     match request {
-        Request::Asks(q) => 256 + (q as u32),
+        Request::Asks(q) => 65536 + (q as u64),
         Request::NoRequest => 0,
     }
 }
 
 // A call as one number.
-pub fn call_word(arrival: Arrival, request: Request) -> u32
+pub fn call_word(arrival: Arrival, request: Request) -> u64
     ensures { λ r. ⌜ callOf r ≡ callIn arrival request ⌝ }
 {
-    request_bits(request) * 131072 + arrival_bits(arrival)
+    request_bits(request) * 33554432 + arrival_bits(arrival)
 }
 
 // The arrival of a call.
-pub fn arrival_in(call: u32) -> Arrival
-    ensures { λ r. ⌜ arrivalIn r ≡ callOf call .arrival ⌝ }
+pub fn arrival_in(call: u64) -> Arrival
+    ensures { λ r. ⌜ arrivalIn r ≡ nearByte (callOf call .arrival) ⌝ }
 {
-    if call / 65536 % 2 == 0 {
+    if call / 16777216 % 2 == 0 {
         return Arrival::NoArrival;
     }
-    Arrival::Comes((call / 256 % 256) as u8, (call % 256) as u8)
+    Arrival::Comes(near_queue(call / 256 % 65536), (call % 256) as u8)
 }
 
 // The request of a call.
-pub fn request_in(call: u32) -> Request
-    ensures { λ r. ⌜ requestIn r ≡ callOf call .request ⌝ }
+pub fn request_in(call: u64) -> Request
+    ensures { λ r. ⌜ requestIn r ≡ nearQueue (callOf call .request) ⌝ }
 {
-    if call / 33554432 % 2 == 0 {
+    if call / 2199023255552 % 2 == 0 {
         return Request::NoRequest;
     }
-    Request::Asks((call / 131072 % 256) as u8)
+    Request::Asks(near_queue(call / 33554432 % 65536))
 }
 
-// A delivery as 17 bits.
+// A delivery as 19 bits.
 fn delivery_bits(delivery: Delivery) -> u64
-    ensures { λ r. ⌜ (r < 131072) × (r ≡ byteWord (deliveryIn delivery)) ⌝ }
+    ensures { λ r. ⌜ (r < 524288) × (r ≡ byteWord (deliveryIn delivery)) ⌝ }
 {
     match delivery {
-        Delivery::Gives(q, v) => 65536 + (q as u64) * 256 + (v as u64),
+        Delivery::Gives(q, v) => 262144 + (q as u64) * 256 + (v as u64),
         Delivery::NoDelivery => 0,
     }
 }
 
-// A queue or none as 9 bits.
+// A queue or none as 11 bits.
 fn chosen_bits(chosen: Chosen) -> u64
-    ensures { λ r. ⌜ (r < 512) × (r ≡ queueWord (chosenIn chosen)) ⌝ }
+    ensures { λ r. ⌜ (r < 2048) × (r ≡ queueWord (chosenIn chosen)) ⌝ }
 {
     match chosen {
-        Chosen::Queue(q) => 256 + (q as u64),
+        Chosen::Queue(q) => 1024 + (q as u64),
         Chosen::Nothing => 0,
     }
 }
@@ -81,9 +92,9 @@ fn chosen_bits(chosen: Chosen) -> u64
 pub fn answer_word(number: u8, delivery: Delivery, written: Chosen, read: Chosen) -> u64
     ensures { λ r. ⌜ r ≡ answerWord number (deliveryIn delivery) (chosenIn written) (chosenIn read) ⌝ }
 {
-    (number as u64) * 34359738368
-        + chosen_bits(read) * 67108864
-        + chosen_bits(written) * 131072
+    (number as u64) * 72057594037927936
+        + chosen_bits(read) * 1073741824
+        + chosen_bits(written) * 524288
         + delivery_bits(delivery)
 }
 
@@ -91,39 +102,39 @@ pub fn answer_word(number: u8, delivery: Delivery, written: Chosen, read: Chosen
 pub fn number_in(answer: u64) -> u8
     ensures { λ r. ⌜ r ≡ numberOf answer ⌝ }
 {
-    (answer / 34359738368 % 256) as u8
+    (answer / 72057594037927936 % 256) as u8
 }
 
 // The byte that an answer delivers.
 pub fn delivery_in(answer: u64) -> Delivery
-    ensures { λ r. ⌜ deliveryIn r ≡ deliveredOf answer ⌝ }
+    ensures { λ r. ⌜ deliveryIn r ≡ nearByte (deliveredOf answer) ⌝ }
 {
-    if answer / 65536 % 2 == 0 {
+    if answer / 262144 % 2 == 0 {
         return Delivery::NoDelivery;
     }
-    Delivery::Gives((answer / 256 % 256) as u8, (answer % 256) as u8)
+    Delivery::Gives(near_queue(answer / 256 % 1024), (answer % 256) as u8)
 }
 
-// What the lowest 9 bits of a number say.
+// What the lowest 11 bits of a number say.
 fn chosen_of(bits: u64) -> Chosen
-    ensures { λ r. ⌜ chosenIn r ≡ queueIn bits ⌝ }
+    ensures { λ r. ⌜ chosenIn r ≡ nearQueue (queueIn answerQueues bits) ⌝ }
 {
-    if bits / 256 % 2 == 0 {
+    if bits / 1024 % 2 == 0 {
         return Chosen::Nothing;
     }
-    Chosen::Queue((bits % 256) as u8)
+    Chosen::Queue(near_queue(bits % 1024))
 }
 
 // The queue that an answer says was written.
 pub fn written_in(answer: u64) -> Chosen
-    ensures { λ r. ⌜ chosenIn r ≡ writtenOf answer ⌝ }
+    ensures { λ r. ⌜ chosenIn r ≡ nearQueue (writtenOf answer) ⌝ }
 {
-    chosen_of(answer / 131072)
+    chosen_of(answer / 524288)
 }
 
 // The queue that an answer says was read.
 pub fn read_in(answer: u64) -> Chosen
-    ensures { λ r. ⌜ chosenIn r ≡ readOf answer ⌝ }
+    ensures { λ r. ⌜ chosenIn r ≡ nearQueue (readOf answer) ⌝ }
 {
-    chosen_of(answer / 67108864)
+    chosen_of(answer / 1073741824)
 }

@@ -134,7 +134,7 @@ counts-one t step = go (step .number)
     go zero = omega arith
     go (suc n) = rw (ne-eqb (suc n) 0 (λ e. omega (arith, e))) (omega arith)
 
--- The slot that `advance` carries out.
+-- The slot in place.
 module _ {x : State} {store : List ℕ} {call : Call} {a : Advanced} {m : Arrays} {counts : ByQueue} {store′ : List ℕ}
     (says : AdvanceSays x store call a m counts store′) where
   number-is : a .number ≡ slot paper x store call .number

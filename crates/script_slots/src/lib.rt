@@ -95,7 +95,9 @@ fn run_slot(
         (countsLeft tails heads owing) (now (store .exit)) (now (output .exit)) ⌝ }
 {
     let regs = start.regs;
-    let slot = slot_in_place::advance(
+    let calls = [run_words::call_word(arrival, request)];
+    let mut answers = [0u64; 1];
+    let slot = run_in_place::run_calls(
         tail,
         head,
         cells,
@@ -105,8 +107,8 @@ fn run_slot(
         heads,
         owing,
         regs,
-        arrival,
-        request,
+        &calls,
+        &mut answers,
         store,
     );
     let next = slot.regs;

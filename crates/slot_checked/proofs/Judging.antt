@@ -13,7 +13,6 @@ use Rattle.model.specs.State.{State, keeps}
 use Rattle.model.specs.Slot.{Call, refuse, slot, refusal}
 use Rattle.model.proofs.basics.Tests.{by-test}
 use Rattle.model.proofs.basics.Limits.{row-within, store-within}
-use Rattle.model.proofs.one_slot.Rules.{keeps-facts}
 use Rattle.layout.specs.declared.Regs.{Regs}
 use Rattle.layout.specs.Views.{sizesIn}
 use Rattle.layout.proofs.Ranges.{InLimits, in-limits}
@@ -67,6 +66,11 @@ module _ (x : State) (bytes : ℕ) where
 
       answered : {m : ℕ} → stateNumber kept (x .sizes) bytes ≡ m → JudgeStateSays x bytes m → JudgeStateSays x bytes n
       answered f says = subst (JudgeStateSays x bytes) (sym (en ∙ f)) says
+
+-- The same by the rules themselves.
+pub judged-state : (x : State) (bytes : ℕ) {n : ℕ} → n ≡ stateNumber (keeps paper x) (x .sizes) bytes
+    → JudgeStateSays x bytes n
+judged-state x bytes e = number-says x bytes refl e
 
 -- The bytes of store that accepted sizes need are a small number.
 pub need-small : (regs : Regs) → accepts paperLimits (sizesIn regs) ≡ true

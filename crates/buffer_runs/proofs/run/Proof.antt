@@ -4,7 +4,13 @@ use Rattle.buffer_runs.proofs.run.Statement.{statement}
 use Rattle.buffer_runs.proofs.run.Tie as tie
 
 run-requires : tie.Need-run-requires
-run-requires c κs = search needs
+run-requires c κs = record {
+  tail-long = search needs;
+  head-long = search needs;
+  cells-long = search needs;
+  firsts-long = search needs;
+  stored-long = search needs;
+}
 
 same-length : tie.Need-same-length
 same-length c = search needs
@@ -13,7 +19,7 @@ same-length-2 : tie.Need-same-length-2
 same-length-2 c = search needs
 
 returns : tie.Need-returns
-returns c = let called = c .before .before .before .before in called .run .ensures
+returns c = let called = c .before .before .before .before .before in called .run .ensures .0
 
 pub run-spec : {M : Type 1} → statement M
 run-spec = tie.close (tie.spec run-requires same-length same-length-2 returns)

@@ -3,9 +3,11 @@ use mathlib.Core.Path.{_≡_, refl}
 use native.Mathlib.Omega.{arith}
 use borrow.Author.Needs.{needs}
 use Rattle.slot_in_place.proofs.Standing as standing
-use Rattle.run_in_place.proofs.Turns.{advancedIn}
+use Rattle.run_words.proofs.Calling.{zero-is-idle}
+use Rattle.run_in_place.specs.Says.{advancedIn}
+use Rattle.run_in_place.proofs.Turns.{ran-call}
 use Rattle.idle_in_place.proofs.Passing.{quiet-passed, quiet-ready, quiet-counted, quiet-most}
-use Rattle.idle_in_place.proofs.Stretches.{pass-is-quiet, pass-once-more, ran-idle}
+use Rattle.idle_in_place.proofs.Stretches.{pass-is-quiet, pass-once-more}
 use Rattle.idle_in_place.proofs.pass.Statement.{statement}
 use Rattle.idle_in_place.proofs.pass.Tie as tie
 
@@ -67,7 +69,7 @@ returns-2 c =
     let slot = ran .run-calls .ensures in
     pass-once-more {a = advancedIn (ran .run-calls .result)} (omega (arith, quiet-most ready says, more .if1 .left))
     (quiet-counted ready says) (quiet-passed ready says .slots-pass)
-    (ran-idle (slot .0) (slot .1) (slot .2))
+    (ran-call 0 zero-is-idle (slot .2))
 
 pub pass-spec : {M : Type 1} → statement M
 pass-spec = tie.close (tie.spec pass-quiet-requires returns add-passed slice-aggregate-run-calls slice-aggregate-run-calls-2 run-calls-requires

@@ -1,8 +1,11 @@
 -- `idle` meets its contract: where no slot is asked for, nothing is; what is judged of every slot holds of an idle one;
 -- and where 3 and 2 are ruled out they are passed on in place.
+use lib.ListN.{length}
 use borrow.Author.Needs.{needs}
-use Rattle.layout.specs.Views.{Arrays, arrays}
-use Rattle.slot_checked.proofs.Clearing.{sizes-kept, judged, ready-judged}
+use Rattle.layout.specs.Views.{Arrays, arrays, stateIn}
+use Rattle.slot_checked.specs.Says.{JudgeStateSays}
+use Rattle.slot_checked.proofs.Judging.{judged-state}
+use Rattle.slot_checked.proofs.Clearing.{ready-counted, leaves-same, leaves-refused, leaves-ready}
 use Rattle.run_checked.proofs.Idling.{none-idled, not-idled}
 use Rattle.run_checked.proofs.idle.Statement.{statement}
 use Rattle.run_checked.proofs.idle.Tie as tie
@@ -13,65 +16,68 @@ memory s =
     arrays (s .args .tail .now) (s .args .head .now) (s .args .cells .now) (s .args .firsts .now) (s .args .stored .now)
 
 -- The way back through the code.
-abbrev some-asked : tie.After-judge-rules → tie.Else1
-some-asked c = c .before .before .before .before .before .before
+abbrev start : tie.After-judge-state → tie.Start
+start c = c .before .before .before .before .before .before .before .before .before .before
 
-abbrev start : tie.Else1 → tie.Start
-start c = c .before .before
+abbrev not-refused : tie.After-pass-arg9 → tie.Else2
+not-refused c = c .before .before .before .before .before .before .before .before .before
 
-abbrev not-refused : tie.After-pass-arg6 → tie.Else2
-not-refused c = c .before .before .before .before .before .before .before .before .before .before .before .before
+-- The number as what it says of every slot.
+number-judged : (c : tie.After-judge-state)
+    → JudgeStateSays (stateIn (start c .args .regs) (memory (start c))) (length (start c .args .store .now))
+    (c .judge-state .result)
+number-judged c = judged-state _ _ (c .judge-state .ensures .0)
+
+judge-state-requires : tie.Need-judge-state-requires
+judge-state-requires c κs = c .before .before .before .before .before .before .before .before .before .pre
 
 returns : tie.Need-returns
-returns c = let s = c .before .before in none-idled _ (s .args .store .now) (s .args .n) (c .if1 .taken)
-
-judge-rules-requires : tie.Need-judge-rules-requires
-judge-rules-requires c κs = start (c .before .before .before .before .before) .pre
-
-state-number-requires : tie.Need-state-number-requires
-state-number-requires c κs =
-    let s = start (some-asked c) in
-    sizes-kept (s .args .regs) (memory s) (s .args .store .now) (c .judge-rules .ensures)
+returns c =
+    let s = start (c .before) in
+    let a = s .args in
+    let says = c .before .judge-state .ensures in (
+      none-idled _ (a .store .now) (a .n) (c .if1 .taken),
+      leaves-same (a .regs) (memory s) (a .store .now) (says .0) (says .1) (s .pre),
+    )
 
 returns-2 : tie.Need-returns-2
 returns-2 c =
-    let numbered = c .before in
-    let rules = numbered .before in
-    let s = start (some-asked rules) in
+    let judged = c .before .before in
+    let s = start judged in
     let a = s .args in
-    not-idled _ (a .store .now) (a .n)
-    (judged (a .regs) (memory s) (a .store .now) (rules .judge-rules .ensures) (numbered .state-number .ensures))
-    (some-asked rules .if1 .left) (c .if2 .taken)
+    let says = judged .judge-state .ensures in (
+      not-idled _ (a .store .now) (a .n) (number-judged judged) (c .before .if1 .left) (c .if2 .taken),
+      leaves-refused (a .regs) (memory s) (a .store .now) (says .0) (says .1) (c .if2 .taken),
+    )
 
 pass-requires : tie.Need-pass-requires
 pass-requires c κs =
     let test = not-refused c in
-    let numbered = test .before in
-    let rules = numbered .before in
-    let s = start (some-asked rules) in
-    ready-judged (s .args .regs) (memory s) (s .args .store .now) (rules .judge-rules .ensures)
-    (numbered .state-number .ensures) (test .if2 .left) (s .pre)
+    let judged = test .before .before in
+    let s = start judged in
+    ready-counted (s .args .regs) (memory s) (s .args .store .now) (number-judged judged) (test .if2 .left)
+    (judged .judge-state .ensures .1) (s .pre)
 
 same-length : tie.Need-same-length
 same-length c = search needs
 
 returns-3 : tie.Need-returns-3
 returns-3 c =
-    let says = c .before .before .pass .ensures in record {
-      stretch = says .stretch;
-      state-is = says .state-is;
-      store-is = says .store-is;
-      kept = λ e. says .ready .kept;
-    }
+    let passed = c .before .before in
+    let says = passed .pass .ensures in
+    let test = not-refused (passed .before) in
+    let s = start (test .before .before) in (
+      record {
+        stretch = says .stretch;
+        state-is = says .state-is;
+        store-is = says .store-is;
+        kept = λ e. says .ready .kept;
+      },
+      leaves-ready (s .args .regs) (memory s) (s .args .store .now) (test .before .before .judge-state .ensures .0)
+          (test .if2 .left) (says .ready),
+    )
 
 pub idle-spec : {M : Type 1} → statement M
 idle-spec =
     tie.close
-    (tie.spec
-    returns
-    judge-rules-requires
-    state-number-requires
-    returns-2
-    pass-requires
-    same-length
-    returns-3)
+    (tie.spec judge-state-requires returns returns-2 pass-requires same-length returns-3)

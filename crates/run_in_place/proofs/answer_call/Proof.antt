@@ -1,5 +1,4 @@
 -- `answer_call` meets its contract: it is the slot of the call that the number stands for.
-use mathlib.Core.Path.{refl}
 use borrow.Author.Needs.{needs}
 use Rattle.run_words.specs.Words.{callOf}
 use Rattle.run_in_place.proofs.Turns.{called}
@@ -32,11 +31,13 @@ returns : tie.Need-returns
 returns c =
     let a = advanced c in
     let request = request-read a in
-    let arrival = request .before in
-    called (callOf (arrival .before .before .args .call)) (arrival .arrival-in .result) (request .request-in .result) _
-    (a .advance .ensures .0) (arrival .arrival-in .ensures) (request .request-in .ensures) refl refl refl refl
-    refl
-    (c .answer-word .ensures)
+    let arrival = request .before in (
+      called (callOf (arrival .before .before .args .call)) (arrival .arrival-in .result)
+          (request .request-in .result) _
+          (a .advance .ensures .0) (arrival .arrival-in .ensures) (request .request-in .ensures)
+          (c .answer-word .ensures),
+      a .advance .ensures .1,
+    )
 
 pub answer-call-spec : {M : Type 1} → statement M
 answer-call-spec =

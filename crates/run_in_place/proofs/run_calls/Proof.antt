@@ -5,7 +5,7 @@ use mathlib.Core.List.{map}
 use Prim.Native.Nat.{_-_}
 use native.Mathlib.Omega.{arith}
 use borrow.Author.Needs.{needs}
-use lib.ListN.{length, length-map, length-set}
+use lib.ListN.{length, getD, length-map, length-set}
 use Rattle.layout.specs.Counts.{byQueue}
 use Rattle.layout.specs.Views.{arrays, stateIn}
 use Rattle.slot_in_place.specs.Says.{Ready}
@@ -23,8 +23,8 @@ Inv-loop tail₀ head₀ cells₀ firsts₀ stored₀ tails₀ heads₀ owing₀
     (stateIn (last .regs) (arrays tail head cells firsts stored)) store
     × (length answers ≡ length answers₀)
     × (length store ≡ length store₀)
-    × FirstTo i (stateIn (last₀ .regs) (arrays tail₀ head₀ cells₀ firsts₀ stored₀)) store₀ (map callOf calls) (callOf 0)
-    last
+    × FirstTo i (last₀ .regs) (arrays tail₀ head₀ cells₀ firsts₀ stored₀) store₀ (getD (map callOf calls) 0 (callOf 0))
+    last (arrays tail head cells firsts stored) (byQueue tails heads owing) store
 
 abbrev μ-loop : tie.MeasureT-loop
 μ-loop tail₀ head₀ cells₀ firsts₀ stored₀ tails₀ heads₀ owing₀ calls answers₀ store₀ last₀ i₀
@@ -32,7 +32,7 @@ abbrev μ-loop : tie.MeasureT-loop
     length calls - i
 
 loop-holds : tie.Need-loop-holds Inv-loop μ-loop
-loop-holds c = let s = c .before .before .before in (s .pre .0, run-starts _ _ _ _, refl, refl, no-first)
+loop-holds c = let s = c .before .before .before in (s .pre .0, run-starts _ _ _ _, refl, refl, no-first refl)
 
 mul-answer-call : tie.Need-mul-answer-call Inv-loop μ-loop
 mul-answer-call c = search needs
@@ -83,14 +83,17 @@ loop-again c =
     let turn = tested (answered c .before) in
     let loop = turn .before .loop in
     let s = start turn in
-    let says = answered c .answer-call .ensures in
+    let called = answered c .answer-call .ensures in
+    let says = called .0 in
     let all = length-map (s .args .calls .now) callOf in (
-      says .ready,
+      says .slot-is .ready,
       run-turn (loop .inv .1) (callOf 0) (call-at (s .args .calls .now) (loop .i))
-          (omega (arith, turn .loop-test .taken, all)) (omega (arith, s .pre .1, all)) says,
+          (omega (arith, turn .loop-test .taken, all)) (omega (arith, s .pre .1, turn .loop-test .taken))
+          (says .slot-is .answer-is) (says .word-is),
       length-set (loop .answers) (loop .i) _ ∙ loop .inv .2,
       store-kept (loop .inv .0) says ∙ loop .inv .3,
-      first-turn (loop .inv .1) (callOf 0) (call-at (s .args .calls .now) (loop .i)) (says .answer-is),
+      first-turn (map callOf (s .args .calls .now)) (callOf 0) (loop .inv .4)
+          (call-at (s .args .calls .now) (loop .i)) says (called .1),
     )
 
 same-length : tie.Need-same-length Inv-loop μ-loop
@@ -106,7 +109,8 @@ returns c =
     let all = length-map (s .args .calls .now) callOf in (
       run-ends (inv .1) (omega (arith, all, c .loop-test .left)),
       inv .0,
-      first-is-all (inv .1) (inv .4) (omega (arith, all, c .loop-test .left)),
+      first-is-all (map callOf (s .args .calls .now)) (callOf 0) (inv .4)
+          (omega (arith, all, c .loop-test .left, inv .1 .within)),
     )
 
 pub run-calls-spec : {M : Type 1} → statement M

@@ -1,9 +1,10 @@
--- `arrival_bits` meets its contract: the byte's queue and value fit 8 bits each, so that they are read back.
+-- `arrival_bits` meets its contract: the byte's queue and value fit their bits, so that they are read back.
 use mathlib.Core.Path.{refl, ap, sym, _∙_}
 use native.Mathlib.Omega.{arith}
 use borrow.Author.Needs.{needs}
 use Rattle.layout.specs.Calls.{arrivalIn}
-use Rattle.run_words.proofs.Bits.{byte-none, byte-back}
+use Rattle.run_words.specs.Words.{callQueues}
+use Rattle.run_words.proofs.Bits.{byte-none, byte-is}
 use Rattle.run_words.proofs.arrival_bits.Statement.{statement}
 use Rattle.run_words.proofs.arrival_bits.Tie as tie
 
@@ -30,11 +31,14 @@ enum-told c = search needs
 
 returns : tie.Need-returns
 returns c =
-    let known = c .before .arrival .given in
-    (omega arith, byte-back (known .0 .0) (known .0 .1 .0) (omega arith) (omega arith) ∙ ap arrivalIn (sym (known .1)))
+    let known = c .before .arrival .given in (
+      omega arith,
+      byte-is callQueues _ (known .0 .0) (known .0 .1 .0) (omega arith) (omega arith) (omega arith)
+          ∙ ap arrivalIn (sym (known .1)),
+    )
 
 returns-2 : tie.Need-returns-2
-returns-2 c = (omega arith, byte-none 0 refl ∙ ap arrivalIn (sym (c .enum-told .given .1)))
+returns-2 c = (omega arith, byte-none callQueues 0 refl ∙ ap arrivalIn (sym (c .enum-told .given .1)))
 
 pub arrival-bits-spec : {M : Type 1} → statement M
 arrival-bits-spec =

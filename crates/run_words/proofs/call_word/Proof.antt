@@ -1,4 +1,4 @@
--- `call_word` meets its contract: the request's bits stand above the arrival's 17.
+-- `call_word` meets its contract: the request's bits stand above the arrival's 25.
 use borrow.Author.Needs.{needs}
 use Rattle.layout.specs.Calls.{arrivalIn, requestIn}
 use Rattle.run_words.proofs.Calling.{call-is}

@@ -1,4 +1,4 @@
--- `read_in` meets its contract: it reads the 9 bits above the 26 of delivery and queue written.
+-- `read_in` meets its contract: it reads the 11 bits above the 30 of delivery and queue written.
 use borrow.Author.Needs.{needs}
 use Rattle.run_words.specs.Words.{readOf}
 use Rattle.run_words.proofs.read_in.Statement.{statement}

@@ -1,4 +1,4 @@
--- `written_in` meets its contract: it reads the 9 bits above the delivery's 17.
+-- `written_in` meets its contract: it reads the 11 bits above the delivery's 19.
 use borrow.Author.Needs.{needs}
 use Rattle.run_words.specs.Words.{writtenOf}
 use Rattle.run_words.proofs.written_in.Statement.{statement}

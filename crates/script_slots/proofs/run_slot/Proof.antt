@@ -1,41 +1,67 @@
--- `run_slot` meets its contract: the slot is the model's, and its lines go by its answer.
+-- `run_slot` meets its contract: a run of the slot's own word is the slot, and its lines go by its answer.
 use mathlib.Core.Path.{refl}
+use native.Mathlib.Omega.{arith}
+use borrow.Author.Needs.{needs}
+use Rattle.run_in_place.specs.Says.{advancedIn}
+use Rattle.run_in_place.proofs.Turns.{ran-call}
 use Rattle.script_slots.proofs.Answers.{slot-answer-fits, slot-runs}
 use Rattle.script_slots.proofs.run_slot.Statement.{statement}
 use Rattle.script_slots.proofs.run_slot.Tie as tie
 
--- The way back through the code: from behind the last argument of `advance` to the start, and from behind
--- `put_answer` to behind `advance`.
-abbrev start : tie.After-advance-arg9 → tie.Start
-start c = c .before .before .before .before .before .before .before .before .before .before .before .before
+-- The way back through the code: from behind the last argument of the run to its word and to the start, and from
+-- behind `put_answer` to behind the run.
+abbrev worded : tie.After-run-calls-arg9 → tie.After-call-word
+worded c = c .before .before .before .before .before .before .before .before .before .before .before
 
-abbrev advanced : tie.After-put-answer-arg → tie.After-advance
-advanced c = c .before .before .before .before
+abbrev start : tie.After-call-word → tie.Start
+start c = c .before .before .before .before
 
-advance-requires : tie.Need-advance-requires
-advance-requires c κs = start c .pre .0
+abbrev ran : tie.After-put-answer-arg → tie.After-run-calls
+ran c = c .before .before .before .before .before
+
+call-word-requires : tie.Need-call-word-requires
+call-word-requires c κs = search needs
+
+slice-aggregate-run-calls : tie.Need-slice-aggregate-run-calls
+slice-aggregate-run-calls c = search needs
+
+slice-aggregate-run-calls-2 : tie.Need-slice-aggregate-run-calls-2
+slice-aggregate-run-calls-2 c = search needs
+
+run-calls-requires : tie.Need-run-calls-requires
+run-calls-requires c κs = (start (worded c) .pre .0, omega arith)
 
 put-answer-requires : tie.Need-put-answer-requires
 put-answer-requires c κs =
-    let answered = advanced c in
-    slot-answer-fits (answered .advance .ensures .0) (start (answered .before) .pre .1)
+    let run = ran c in
+    let word = worded (run .before) in
+    slot-answer-fits {a = advancedIn (run .run-calls .result)}
+    (ran-call (word .call-word .result) (word .call-word .ensures) (run .run-calls .ensures .2))
+    (start word .pre .1)
 
 same-length : tie.Need-same-length
-same-length c = c .before .before .before .before .before .before .store .given
+same-length c = search needs
 
 same-length-2 : tie.Need-same-length-2
-same-length-2 c = c .before .output .given
+same-length-2 c = search needs
 
 returns : tie.Need-returns
 returns c =
     let printed = c .before .before in
-    slot-runs (advanced (printed .before) .advance .ensures .0) (printed .put-answer .ensures) refl refl refl
+    let run = ran (printed .before) in
+    let word = worded (run .before) in
+    slot-runs {a = advancedIn (run .run-calls .result)}
+    (ran-call (word .call-word .result) (word .call-word .ensures) (run .run-calls .ensures .2))
+    (printed .put-answer .ensures) refl refl refl
 
 pub run-slot-spec : {M : Type 1} → statement M
 run-slot-spec =
     tie.close
     (tie.spec
-    advance-requires
+    call-word-requires
+    slice-aggregate-run-calls
+    slice-aggregate-run-calls-2
+    run-calls-requires
     put-answer-requires
     same-length
     same-length-2

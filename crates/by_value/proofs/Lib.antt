@@ -1,0 +1,2 @@
+-- A list from a made state.
+pub mod Making

@@ -1,0 +1,2 @@
+-- What a list of slots by value promises.
+pub mod Says

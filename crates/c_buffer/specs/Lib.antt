@@ -1,2 +1,0 @@
--- What a run from a fresh state promises to a caller outside.
-pub mod Says

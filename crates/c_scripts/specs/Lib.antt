@@ -1,0 +1,2 @@
+-- What the script functions for C promise.
+pub mod Says

@@ -1,0 +1,184 @@
+-- Slots whose registers are read from an array and put back there, and whose answers are told as numbers.
+use mathlib.Core.Path.{_≡_, refl, ap, sym, _∙_, subst}
+use mathlib.Core.List.{List}
+use mathlib.Core.Option.{Option, none}
+use Prim.Native.Nat.{ℕ}
+use lib.ListN.{length}
+use Rattle.model.specs.Sizes.{paper}
+use Rattle.model.specs.State.{Byte}
+use Rattle.model.specs.Slot as model
+use Rattle.model.specs.Slot.{Call, refuse, slot}
+use Rattle.model.specs.Idle.{lastAnswer}
+use Rattle.layout.specs.Counts.{ByQueue}
+use Rattle.layout.specs.Calls.{chosenIn, deliveryIn, arrivalIn, requestIn, callIn}
+use Rattle.layout.specs.declared.Arrival.{Arrival}
+use Rattle.layout.specs.declared.Request.{Request}
+use Rattle.layout.specs.declared.Regs.{Regs}
+use Rattle.layout.specs.Views.{Arrays, Long, stateIn}
+use Rattle.slot_plan.specs.declared.Plan.{Plan}
+use Rattle.slot_in_place.specs.Says.{Ready, answerIn}
+use Rattle.slot_checked.specs.Says.{JudgeStateSays, CountsSay, judgedNumber, LeaveSays, PlanCheckedSays}
+use Rattle.slot_checked.proofs.Judging.{judged-state}
+use Rattle.slot_checked.proofs.Clearing.{ready-counted, leaves-refused, leaves-ready}
+use Rattle.run_words.specs.Words.{nearByte, nearQueue}
+use Rattle.run_words.proofs.Nearest.{read-slot}
+use Rattle.run_in_place.specs.declared.Called.{Called}
+use Rattle.run_in_place.specs.Says.{advancedIn, OneSlotSays}
+use Rattle.run_checked.specs.Says.{RunCheckedSays, IdleCheckedSays}
+use Rattle.run_checked.specs.declared.Ran.{Ran}
+use Rattle.idle_in_place.specs.declared.Passed.{Passed}
+use Rattle.gelwynnar.specs.declared.slots.Answer.{Answer}
+use Rattle.gelwynnar.specs.declared.slots.DeliveryFields.{DeliveryFields}
+use Rattle.gelwynnar.specs.declared.slots.ChosenFields.{ChosenFields}
+use Rattle.gelwynnar.specs.Slots.{flag, queueTold, deliveryTold, valueTold, answerTold, told}
+use Rattle.gelwynnar.specs.Slots.{SlotLentSays, IdleLentSays}
+
+-- An answer is told by its parts.
+told-parts : (n : ℕ) (d : Option Byte) (w r : Option ℕ) (a : model.Answer) → n ≡ a .number → d ≡ a .delivered
+    → w ≡ a .written → r ≡ a .read → answerTold n d w r ≡ told a
+told-parts n d w r a en ed ew er =
+    ap (λ (k : ℕ). answerTold k d w r) en
+    ∙ ap (λ (y : Option Byte). answerTold (a .number) y w r) ed
+    ∙ ap (λ (q : Option ℕ). answerTold (a .number) (a .delivered) q r) ew
+    ∙ ap (λ (q : Option ℕ). answerTold (a .number) (a .delivered) (a .written) q) er
+
+-- Each field of an answer by itself.
+pub told-fields : {number : ℕ} (delivered : Option Byte) (written read : Option ℕ) {gave : DeliveryFields}
+    {wrote fetched : ChosenFields}
+    → (gave .delivers ≡ flag delivered) × (gave .value ≡ valueTold delivered) × (gave .queue ≡ deliveryTold delivered)
+    → (wrote .moves ≡ flag written) × (wrote .queue ≡ queueTold written)
+    → (fetched .moves ≡ flag read) × (fetched .queue ≡ queueTold read)
+    → _≡_ {A = Answer} (record {
+      number = number;
+      dropped = 0;
+      delivers = gave .delivers;
+      writes = wrote .moves;
+      reads = fetched .moves;
+      value = gave .value;
+      queue = gave .queue;
+      written = wrote .queue;
+      read = fetched .queue;
+      «slots_left» = 0;
+    }) (answerTold number delivered written read)
+told-fields delivered written read d w r = rw (d .0, d .1, d .2, w .0, w .1, r .0, r .1)
+
+-- `regs` is what an array held, `regs′` what it holds then.
+module _ {regs regs′ : Regs} (m m′ : Arrays) {store store′ : List ℕ} {before : Regs} (read-in : before ≡ regs) where
+  pub stepped : {call : Call} {r : Called} {counts′ : ByQueue} {a : Answer}
+      → OneSlotSays before m store call r m′ counts′ store′ → regs′ ≡ r .regs
+      → a ≡ answerTold (r .number) (deliveryIn (r .delivery)) (chosenIn (r .written)) (chosenIn (r .read))
+      → SlotLentSays regs m store call a regs′ m′ store′ × Ready regs′ m′ counts′ store′
+  stepped {call} {r} {counts′} {a} says put tells = (
+    record {
+      answer-is = tells ∙ ap told answer;
+      state-is = ap (λ (n : Regs). stateIn n m′) put ∙ ap (λ (b : model.Answer). b .state) answer;
+      store-is = ap (λ (b : model.Answer). b .store) answer;
+      as-given = λ f.
+          let same = one .as-given (λ z. f (ap (λ (b : Answer). b .number) tells ∙ z)) in (put ∙ same .0, same .1);
+    },
+    subst (λ (n : Regs). Ready n m′ counts′ store′) (sym put) (one .slot-is .ready),
+  )
+    where
+      one : OneSlotSays regs m store call r m′ counts′ store′
+      one = subst (λ (n : Regs). OneSlotSays n m store call r m′ counts′ store′) read-in says
+
+      answer : answerIn (advancedIn r) m′ store′ ≡ slot paper (stateIn regs m) store call
+      answer = one .slot-is .answer-is
+
+  pub ran : {calls answers answers′ : List ℕ} {counts counts′ : ByQueue} {r : Ran}
+      → RunCheckedSays (stateIn before m) calls answers store (stateIn (r .regs) m′) answers′ store′
+      × (r .number ≡ judgedNumber before m store)
+      × LeaveSays before m counts store (r .regs) m′ counts′ store′
+      → regs′ ≡ r .regs
+      → RunCheckedSays (stateIn regs m) calls answers store (stateIn regs′ m′) answers′ store′
+      × (r .number ≡ judgedNumber regs m store)
+      × LeaveSays regs m counts store regs′ m′ counts′ store′
+  ran {calls} {answers} {answers′} {counts} {counts′} {r} says put = subst (λ (n : Regs). Says regs n) (sym put)
+      (subst (λ (n : Regs). Says n (r .regs)) read-in says)
+    where
+      Says : Regs → Regs → Type 0
+      Says n n′ =
+          RunCheckedSays (stateIn n m) calls answers store (stateIn n′ m′) answers′ store′
+          × (r .number ≡ judgedNumber n m store)
+          × LeaveSays n m counts store n′ m′ counts′ store′
+
+  pub idled : {n : ℕ} {counts counts′ : ByQueue} {r : Passed} {a : Answer}
+      → IdleCheckedSays (stateIn before m) store n r (stateIn (r .regs) m′) store′
+      × LeaveSays before m counts store (r .regs) m′ counts′ store′
+      → regs′ ≡ r .regs
+      → a ≡ answerTold (r .number) (deliveryIn (r .delivery)) (chosenIn (r .written)) (chosenIn (r .read))
+      → IdleLentSays (stateIn regs m) store n (record { passed = r .passed; last = a }) (stateIn regs′ m′) store′
+      × LeaveSays regs m counts store regs′ m′ counts′ store′
+  idled {n} {counts} {counts′} {r} {a} says put tells = (
+    record {
+      passed-is = idle .stretch .passed-is;
+      quiet-first = idle .stretch .quiet-first;
+      last-is = tells
+          ∙ told-parts (r .number) (deliveryIn (r .delivery)) (chosenIn (r .written)) (chosenIn (r .read))
+          (lastAnswer paper (stateIn regs m) store (r .passed)) (idle .stretch .last-number)
+          (idle .stretch .last-delivered) (idle .stretch .last-written) (idle .stretch .last-read);
+      state-is = idle .state-is;
+      store-is = idle .store-is;
+    },
+    there .1,
+  )
+    where
+      Says : Regs → Regs → Type 0
+      Says k k′ =
+          IdleCheckedSays (stateIn k m) store n r (stateIn k′ m′) store′
+          × LeaveSays k m counts store k′ m′ counts′ store′
+
+      there : Says regs regs′
+      there =
+          subst (λ (k : Regs). Says regs k) (sym put) (subst (λ (k : Regs). Says k (r .regs)) read-in says)
+
+      idle : IdleCheckedSays (stateIn regs m) store n r (stateIn regs′ m′) store′
+      idle = there .0
+
+-- A slot of a state of which 3 and 2 are judged: refused, or a step.
+module _ {regs : Regs} (m : Arrays) (store : List ℕ) {before : Regs} (read-in : before ≡ regs) {n : ℕ}
+    (number-is : n ≡ judgedNumber before m store) {counts counts′ : ByQueue}
+    (counted : CountsSay (stateIn before m) (stateIn before m) counts counts′) where
+  number-here : n ≡ judgedNumber regs m store
+  number-here = subst (λ (k : Regs). n ≡ judgedNumber k m store) read-in number-is
+
+  judged : JudgeStateSays (stateIn regs m) (length store) n
+  judged = judged-state (stateIn regs m) (length store) number-here
+
+  counts-here : CountsSay (stateIn regs m) (stateIn regs m) counts counts′
+  counts-here = subst (λ (k : Regs). CountsSay (stateIn k m) (stateIn k m) counts counts′) read-in counted
+
+  pub slot-refused : {call : Call} {a : Answer} → (n ≡ 0 → ⊥) → a ≡ answerTold n none none none
+      → SlotLentSays regs m store call a regs m store × LeaveSays regs m counts store regs m counts′ store
+  slot-refused {call} {a} f tells = (
+    record {
+      answer-is = tells ∙ ap told (sym refused);
+      state-is = ap (λ (b : model.Answer). b .state) (sym refused);
+      store-is = ap (λ (b : model.Answer). b .store) (sym refused);
+      as-given = λ _. (refl, refl);
+    },
+    leaves-refused regs m store number-here counts-here f,
+  )
+    where
+      refused : slot paper (stateIn regs m) store call ≡ refuse n (stateIn regs m) store
+      refused = judged .refused f store call refl
+
+  pub step-ready : n ≡ 0 → Long m → Ready regs m counts′ store
+  step-ready z long = ready-counted regs m store judged z counts-here long
+
+  pub slot-stepped : n ≡ 0 → {call : Call} {a : Answer} {regs′ : Regs} {m′ : Arrays} {counts″ : ByQueue}
+      {store′ : List ℕ}
+      → SlotLentSays regs m store call a regs′ m′ store′ × Ready regs′ m′ counts″ store′
+      → SlotLentSays regs m store call a regs′ m′ store′ × LeaveSays regs m counts store regs′ m′ counts″ store′
+  slot-stepped z says = (says .0, leaves-ready regs m store number-here z (says .1))
+
+-- The number of a slot, by what is decided of it.
+pub number-judged : {regs : Regs} (m : Arrays) {bytes : ℕ} {before : Regs} → before ≡ regs
+    → (call : Call) (arrival : Arrival) (request : Request) {r : Plan}
+    → PlanCheckedSays (stateIn before m) bytes (callIn arrival request) r
+    → arrivalIn arrival ≡ nearByte (call .arrival) → requestIn request ≡ nearQueue (call .request)
+    → (store : List ℕ) → length store ≡ bytes → r .number ≡ slot paper (stateIn regs m) store call .number
+number-judged {regs} m {before = before} read-in call arrival request says ea er store long =
+    says .number-is store long
+    ∙ ap (λ (a : model.Answer). a .number) (read-slot (stateIn before m) store call ea er)
+    ∙ ap (λ (k : Regs). slot paper (stateIn k m) store call .number) read-in

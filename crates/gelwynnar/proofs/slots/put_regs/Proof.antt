@@ -1,0 +1,10 @@
+-- `put_regs` meets its contract: the eight numbers stand in the registers' own order.
+use mathlib.Core.Path.{refl}
+use Rattle.gelwynnar.proofs.slots.put_regs.Statement.{statement}
+use Rattle.gelwynnar.proofs.slots.put_regs.Tie as tie
+
+returns : tie.Need-returns
+returns c = refl
+
+pub put-regs-spec : {M : Type 1} → statement M
+put-regs-spec = tie.close (tie.spec returns)

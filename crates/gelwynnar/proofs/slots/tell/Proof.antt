@@ -1,0 +1,25 @@
+-- `tell` meets its contract: each field by itself.
+use Rattle.layout.specs.Calls.{chosenIn, deliveryIn}
+use Rattle.gelwynnar.proofs.Lent.{told-fields}
+use Rattle.gelwynnar.proofs.slots.tell.Statement.{statement}
+use Rattle.gelwynnar.proofs.slots.tell.Tie as tie
+
+delivery-fields-requires : tie.Need-delivery-fields-requires
+delivery-fields-requires c κs = tt
+
+chosen-fields-requires : tie.Need-chosen-fields-requires
+chosen-fields-requires c κs = tt
+
+chosen-fields-requires-2 : tie.Need-chosen-fields-requires-2
+chosen-fields-requires-2 c κs = tt
+
+returns : tie.Need-returns
+returns c =
+    let wrote = c .before in
+    let gave = wrote .before in
+    let a = gave .before .args in
+    told-fields (deliveryIn (a .delivery)) (chosenIn (a .written)) (chosenIn (a .read))
+    (gave .delivery-fields .ensures) (wrote .chosen-fields .ensures) (c .chosen-fields2 .ensures)
+
+pub tell-spec : {M : Type 1} → statement M
+tell-spec = tie.close (tie.spec delivery-fields-requires chosen-fields-requires chosen-fields-requires-2 returns)

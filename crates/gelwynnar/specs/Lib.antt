@@ -1,0 +1,3 @@
+-- What the functions for C and C++ promise.
+pub mod Version
+pub mod Slots

@@ -1,0 +1,101 @@
+-- What slots promise whose state lies in arrays that a C caller lends, by the model's own slot.
+use mathlib.Core.Path.{_≡_}
+use mathlib.Core.Bool.{true, false}
+use mathlib.Core.List.{List}
+use mathlib.Core.Option.{Option, some, none}
+use Prim.Native.Nat.{ℕ, _-_, _≤_}
+use lib.ListN.{length, getD}
+use Rattle.model.specs.Basics.{All}
+use Rattle.model.specs.Sizes.{sizes, paperLimits, accepts, paper, storeBytes}
+use Rattle.model.specs.State.{Byte, State, fresh, makingNumber}
+use Rattle.model.specs.Slot as model
+use Rattle.model.specs.Slot.{Call, slot}
+use Rattle.model.specs.Calls.{idles}
+use Rattle.model.specs.Lists.{run, lastState, lastStore}
+use Rattle.model.specs.Idle.{QuietStep, stretchLength, lastAnswer}
+use Rattle.layout.specs.Counts.{ByQueue}
+use Rattle.layout.specs.declared.Regs.{Regs}
+use Rattle.layout.specs.Views.{Arrays, stateIn}
+use Rattle.layout.specs.Fresh.{freshRegs, freshArrays, freshCounts}
+use Rattle.slot_in_place.specs.Says.{Ready}
+use Rattle.gelwynnar.specs.declared.slots.Answer.{Answer}
+use Rattle.gelwynnar.specs.declared.slots.Stretched.{Stretched}
+
+-- The registers as an array of eight, in their own order.
+abbrev pub regsIn : List ℕ → Regs
+regsIn l = record {
+  queues = getD l 0 0;
+  block = getD l 1 0;
+  depth = getD l 2 0;
+  phase = getD l 3 0;
+  «tail_fill» = getD l 4 0;
+  «head_fill» = getD l 5 0;
+  «tail_mark» = getD l 6 0;
+  «head_mark» = getD l 7 0;
+}
+
+-- An answer as numbers: 1 and its queue where there is one, else 0 and 0.
+abbrev pub flag : {A : Type 0} → Option A → ℕ
+flag none = 0
+flag (some y) = 1
+
+abbrev pub queueTold : Option ℕ → ℕ
+queueTold none = 0
+queueTold (some q) = q
+
+abbrev pub deliveryTold : Option Byte → ℕ
+deliveryTold none = 0
+deliveryTold (some y) = y .queue
+
+abbrev pub valueTold : Option Byte → ℕ
+valueTold none = 0
+valueTold (some y) = y .value
+
+-- No slot of this model drops a half or tells how many slots are left.
+abbrev pub answerTold : ℕ → Option Byte → Option ℕ → Option ℕ → Answer
+answerTold number delivered written read = record {
+  number = number;
+  dropped = 0;
+  delivers = flag delivered;
+  writes = flag written;
+  reads = flag read;
+  value = valueTold delivered;
+  queue = deliveryTold delivered;
+  written = queueTold written;
+  read = queueTold read;
+  «slots_left» = 0;
+}
+
+abbrev pub told : model.Answer → Answer
+told a = answerTold (a .number) (a .delivered) (a .written) (a .read)
+
+-- "A making of a state checks 1 only." Accepted sizes give the fresh state, ready for slots with every store that is
+-- long enough; with any other, all is as it came.
+pub record OpenSays (q b k r : ℕ) (regs : List ℕ) (m : Arrays) (counts : ByQueue) (regs′ : List ℕ) (m′ : Arrays)
+    (counts′ : ByQueue) : Type 0 where
+  pub number-is : r ≡ makingNumber paper (sizes q b k)
+  pub fresh-is : accepts paperLimits (sizes q b k) ≡ true → stateIn (regsIn regs′) m′ ≡ fresh paper (sizes q b k)
+  pub places-are : accepts paperLimits (sizes q b k) ≡ true
+      → (regsIn regs′ ≡ freshRegs q b k) × (m′ ≡ freshArrays) × (counts′ ≡ freshCounts)
+  pub ready : accepts paperLimits (sizes q b k) ≡ true
+      → (store : List ℕ) → storeBytes (sizes q b k) ≤ length store → Ready (regsIn regs′) m′ counts′ store
+  pub as-given : accepts paperLimits (sizes q b k) ≡ false → (regs′ ≡ regs) × (m′ ≡ m) × (counts′ ≡ counts)
+
+-- One slot: the answer, the whole state and the whole store are those of the model's slot. On a refusal the registers
+-- and the arrays are as they came, places past a fill included.
+pub record SlotLentSays (regs : Regs) (m : Arrays) (store : List ℕ) (call : Call) (r : Answer) (regs′ : Regs)
+    (m′ : Arrays) (store′ : List ℕ) : Type 0 where
+  pub answer-is : r ≡ told (slot paper (stateIn regs m) store call)
+  pub state-is : stateIn regs′ m′ ≡ slot paper (stateIn regs m) store call .state
+  pub store-is : store′ ≡ slot paper (stateIn regs m) store call .store
+  pub as-given : (r .number ≡ 0 → ⊥) → (regs′ ≡ regs) × (m′ ≡ m)
+
+-- One stretch of at most n idle slots: how many passed, all but the last being quiet, what the last of them answered,
+-- the whole state and the whole store as they leave them.
+pub record IdleLentSays (x : State) (store : List ℕ) (n : ℕ) (r : Stretched) (x′ : State) (store′ : List ℕ)
+    : Type 0 where
+  pub passed-is : r .passed ≡ stretchLength paper x store n
+  pub quiet-first : All QuietStep (run paper x store (idles (r .passed - 1)))
+  pub last-is : r .last ≡ told (lastAnswer paper x store (r .passed))
+  pub state-is : x′ ≡ lastState paper x store (idles (r .passed))
+  pub store-is : store′ ≡ lastStore paper x store (idles (r .passed))

@@ -1,17 +1,8 @@
-//! Links the proved library, `../target/staticlib/libc_buffer.a`.
+//! Links the library of the slot by value, `../target/staticlib/libby_value.a`, which this benchmark alone needs.
 
-use std::env;
-use std::path::Path;
+#[path = "../rust/link.rs"]
+mod link;
 
 fn main() {
-    println!("cargo:rerun-if-changed=build.rs");
-    let here = env::var("CARGO_MANIFEST_DIR").expect("cargo names the folder of the package");
-    let folder = Path::new(&here).parent().expect("the folder lies in a repository").join("target/staticlib");
-    let library = folder.join("libc_buffer.a");
-    println!("cargo:rerun-if-changed={}", library.display());
-    if !library.exists() {
-        panic!("{} is not built: run `rt staticlib c_buffer`", library.display());
-    }
-    println!("cargo:rustc-link-search=native={}", folder.display());
-    println!("cargo:rustc-link-lib=static=c_buffer");
+    link::link("by_value");
 }

@@ -1,6 +1,9 @@
-//! The proved packet buffer beside natural Rust: the same lists of slots through both.
+//! The proved packet buffer beside natural Rust, plain and careful: the same lists of slots through all of them.
 
+pub mod by_value;
+pub mod careful;
 pub mod library;
+pub mod model;
 pub mod natural;
 pub mod rough;
 pub mod traffic;
@@ -52,6 +55,13 @@ impl Sizes {
         self.queues * self.depth * self.block
     }
 }
+
+/// A way to run a list of slots from a fresh state, an answer word for each call; false where it is refused, and then
+/// nothing is written.
+pub type Run = fn(Sizes, &[u64], &mut Lent) -> bool;
+
+/// The same, and then so many idle slots, with no word for them.
+pub type RunThenIdle = fn(Sizes, &[u64], &mut Lent, usize) -> bool;
 
 /// What a run writes to: an answer word for each call, the slow store, and the high marks of the state that it
 /// leaves, the tail's first.

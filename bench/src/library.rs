@@ -1,146 +1,139 @@
-//! The boundary to the proved library: its functions, safe to call.
+//! The boundary to the proved library: a buffer in lent arrays, and ways to run a whole list of slots from a fresh
+//! state, all safe to call.
 //!
-//! Each runs a whole list of slots from a fresh state of the sizes, writes an answer word for each call, and leaves the
-//! high marks. The words are those of `words`.
+//! Each way writes an answer word for each call, and leaves the high marks. The words are those of `words`.
 
+use gelwynnar::{reg, Answer, Blocks, Cells, Counts, Head, Regs, Stretch, Tail};
+
+use crate::words::refused;
 use crate::{Lent, Sizes};
 
-/// A way to run a list of slots; false where it is refused, and then nothing is written.
-pub type Run = fn(Sizes, &[u32], &mut Lent) -> bool;
-
-/// One checked slot by value for each call.
-pub fn slots(sizes: Sizes, calls: &[u32], lent: &mut Lent) -> bool {
-    drive(raw::drive_slots, sizes, calls, lent)
-}
-
-/// The unchecked step by value for each call.
-pub fn steps(sizes: Sizes, calls: &[u32], lent: &mut Lent) -> bool {
-    drive(raw::drive_steps, sizes, calls, lent)
-}
-
-/// Many slots in one call, in place.
-pub fn run(sizes: Sizes, calls: &[u32], lent: &mut Lent) -> bool {
-    drive(raw::drive_run, sizes, calls, lent)
-}
-
-/// The calls, and then so many idle slots in one call by their count, with no word for them.
-pub fn run_then_idle(sizes: Sizes, calls: &[u32], lent: &mut Lent, idle_slots: usize) -> bool {
-    assert_eq!(calls.len(), lent.answers.len());
-    let Sizes { queues, block, depth } = sizes;
-    // Safe for the reason given in `drive`.
-    let driven = unsafe {
-        raw::drive_idle(
-            queues,
-            block,
-            depth,
-            calls.as_ptr(),
-            calls.len(),
-            lent.answers.as_mut_ptr(),
-            lent.answers.len(),
-            lent.store.as_mut_ptr(),
-            lent.store.len(),
-            idle_slots,
-        )
-    };
-    marked(driven, lent)
-}
-
-/// What `drive_slots`, `drive_steps` and `drive_run` have in common.
-type Drive = unsafe extern "C" fn(
-    usize,
-    usize,
-    usize,
-    *const u32,
-    usize,
-    *mut u64,
-    usize,
-    *mut u8,
-    usize,
-) -> raw::Driven;
-
-fn drive(drive: Drive, sizes: Sizes, calls: &[u32], lent: &mut Lent) -> bool {
-    assert_eq!(calls.len(), lent.answers.len());
-    let Sizes { queues, block, depth } = sizes;
-    // Safe: each pointer goes with the length of its own slice; the library stays within and keeps none.
-    let driven = unsafe {
-        drive(
-            queues,
-            block,
-            depth,
-            calls.as_ptr(),
-            calls.len(),
-            lent.answers.as_mut_ptr(),
-            lent.answers.len(),
-            lent.store.as_mut_ptr(),
-            lent.store.len(),
-        )
-    };
-    marked(driven, lent)
-}
-
-/// The marks of a list that was run.
-fn marked(driven: raw::Driven, lent: &mut Lent) -> bool {
-    if driven.number != 0 {
-        return false;
-    }
-    lent.marks = [driven.tail_mark, driven.head_mark];
+/// One checked slot for each call.
+pub fn slots(sizes: Sizes, calls: &[u64], lent: &mut Lent) -> bool {
+    let Some(mut buffer) = Buffer::open(sizes) else { return false };
+    buffer.one_by_one(Buffer::slot, calls, lent);
     true
 }
 
-mod raw {
-    /// What a list answers: 0 with its high marks, or why it was not run.
-    #[repr(C)]
-    pub struct Driven {
-        pub number: u8,
-        pub tail_mark: usize,
-        pub head_mark: usize,
+/// The step, which does not judge the store, for each call: it is judged here, once for the list.
+pub fn steps(sizes: Sizes, calls: &[u64], lent: &mut Lent) -> bool {
+    let Some(mut buffer) = Buffer::open(sizes) else { return false };
+    if lent.store.len() < sizes.store() {
+        return false;
+    }
+    // Safe: the store is long enough.
+    buffer.one_by_one(|buffer, call, store| unsafe { buffer.step(call, store) }, calls, lent);
+    true
+}
+
+/// All slots in one call.
+pub fn run(sizes: Sizes, calls: &[u64], lent: &mut Lent) -> bool {
+    run_then_idle(sizes, calls, lent, 0)
+}
+
+/// The same, and then so many idle slots by their count, stretch by stretch and with no word for them.
+pub fn run_then_idle(sizes: Sizes, calls: &[u64], lent: &mut Lent, idle_slots: usize) -> bool {
+    let Some(mut buffer) = Buffer::open(sizes) else { return false };
+    let number = buffer.run(calls, &mut lent.answers, &mut lent.store);
+    assert!(
+        number == 0 || lent.answers.iter().all(|&answer| answer == refused(number)),
+        "{number}, but not all"
+    );
+    let mut left = idle_slots;
+    while left > 0 {
+        let stretch = buffer.idle(left, &mut lent.store);
+        if stretch.last.number != 0 {
+            // Nothing has changed, so that every other would be refused too.
+            break;
+        }
+        assert!((1..=left).contains(&stretch.passed), "{} of {left} idle slots passed", stretch.passed);
+        left -= stretch.passed;
+    }
+    lent.marks = buffer.marks();
+    true
+}
+
+/// A buffer, as `gel_buffer` has it. Its arrays are its own, so that only the library writes them.
+#[repr(C)]
+pub struct Buffer {
+    regs: Regs,
+    tail: Tail,
+    head: Head,
+    cells: Cells,
+    firsts: Blocks,
+    stored: Blocks,
+    tails: Counts,
+    heads: Counts,
+    owing: Counts,
+}
+
+impl Buffer {
+    /// A fresh buffer, or none where the sizes are refused.
+    pub fn open(sizes: Sizes) -> Option<Box<Buffer>> {
+        let Sizes { queues, block, depth } = sizes;
+        let mut buffer = Box::new(Buffer {
+            regs: [0; _],
+            tail: [0; _],
+            head: [0; _],
+            cells: [0; _],
+            firsts: [0; _],
+            stored: [0; _],
+            tails: [0; _],
+            heads: [0; _],
+            owing: [0; _],
+        });
+        let number = gelwynnar::open(queues, block, depth, buffer.arrays());
+        (number == 0).then_some(buffer)
     }
 
-    extern "C" {
-        pub fn drive_slots(
-            queues: usize,
-            block: usize,
-            depth: usize,
-            calls: *const u32,
-            calls_len: usize,
-            answers: *mut u64,
-            answers_len: usize,
-            store: *mut u8,
-            store_len: usize,
-        ) -> Driven;
-        pub fn drive_steps(
-            queues: usize,
-            block: usize,
-            depth: usize,
-            calls: *const u32,
-            calls_len: usize,
-            answers: *mut u64,
-            answers_len: usize,
-            store: *mut u8,
-            store_len: usize,
-        ) -> Driven;
-        pub fn drive_run(
-            queues: usize,
-            block: usize,
-            depth: usize,
-            calls: *const u32,
-            calls_len: usize,
-            answers: *mut u64,
-            answers_len: usize,
-            store: *mut u8,
-            store_len: usize,
-        ) -> Driven;
-        pub fn drive_idle(
-            queues: usize,
-            block: usize,
-            depth: usize,
-            calls: *const u32,
-            calls_len: usize,
-            answers: *mut u64,
-            answers_len: usize,
-            store: *mut u8,
-            store_len: usize,
-            idle_slots: usize,
-        ) -> Driven;
+    /// One slot. Everything is judged.
+    pub fn slot(&mut self, call: u64, store: &mut [u8]) -> Answer {
+        gelwynnar::slot(self.arrays(), call, store)
+    }
+
+    /// The same slot, with a store that is long enough.
+    ///
+    /// # Safety
+    ///
+    /// The store has Q × K × b bytes or more.
+    pub unsafe fn step(&mut self, call: u64, store: &mut [u8]) -> Answer {
+        // Safe then: `open` answered 0, and since then only the library has written the arrays.
+        unsafe { gelwynnar::step(self.arrays(), call, store) }
+    }
+
+    /// Many slots, an answer word for each: 0, or the number that all of them answer.
+    pub fn run(&mut self, calls: &[u64], answers: &mut [u64], store: &mut [u8]) -> u8 {
+        assert_eq!(calls.len(), answers.len());
+        gelwynnar::run(self.arrays(), calls, answers, store)
+    }
+
+    /// At most so many idle slots, up to the first that delivers, moves or is refused.
+    pub fn idle(&mut self, slots: usize, store: &mut [u8]) -> Stretch {
+        gelwynnar::idle(self.arrays(), slots, store)
+    }
+
+    /// The most bytes that the tail and the head cache have held.
+    pub fn marks(&self) -> [usize; 2] {
+        [self.regs[reg::TAIL_MARK], self.regs[reg::HEAD_MARK]]
+    }
+
+    /// The arrays, lent for one call.
+    fn arrays(&mut self) -> gelwynnar::Lent<'_> {
+        let Buffer { regs, tail, head, cells, firsts, stored, tails, heads, owing } = self;
+        gelwynnar::Lent { regs, tail, head, cells, firsts, stored, tails, heads, owing }
+    }
+
+    /// One call of the library for each slot, and the marks that they leave.
+    fn one_by_one(
+        &mut self,
+        slot: impl Fn(&mut Buffer, u64, &mut [u8]) -> Answer,
+        calls: &[u64],
+        lent: &mut Lent,
+    ) {
+        assert_eq!(calls.len(), lent.answers.len());
+        for (&call, answer) in calls.iter().zip(&mut lent.answers) {
+            *answer = slot(self, call, &mut lent.store).word();
+        }
+        lent.marks = self.marks();
     }
 }

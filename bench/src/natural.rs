@@ -1,20 +1,20 @@
-//! The slot as one would write it in Rust, with nothing proved: a `VecDeque` for each queue's tail and head,
-//! another for the lookahead, and counts kept up to date.
+//! The slot as one would first write it in Rust, with nothing proved: a `VecDeque` for each queue's tail and
+//! head, another for the lookahead, and counts kept up to date. `careful` is the one written to be fast.
 
 use std::collections::VecDeque;
-use std::hint::black_box;
 
-use crate::words::{halves, Answer};
-use crate::{Lent, Sizes, MOST_QUEUES};
+use crate::model::{Model, Natural};
+use crate::words::{self, Arrival, Request};
+use crate::{Sizes, MOST_QUEUES};
 
 /// A place of the lookahead: what comes out when it is the oldest.
 #[derive(Clone, Copy)]
 enum Cell {
     Empty,
     /// The byte travels in its cell.
-    Held(u8, u8),
+    Held(u16, u8),
     /// The oldest head byte of this queue.
-    Owed(u8),
+    Owed(u16),
 }
 
 #[derive(Clone, Default)]
@@ -27,6 +27,8 @@ struct Queue {
     first: usize,
     blocks: usize,
 }
+
+pub static PLAIN: Natural = Natural::of::<Buffer>("plain natural Rust");
 
 pub struct Buffer {
     sizes: Sizes,
@@ -41,9 +43,8 @@ pub struct Buffer {
     head_mark: usize,
 }
 
-impl Buffer {
-    /// A fresh buffer, or none where the sizes are refused.
-    pub fn new(sizes: Sizes) -> Option<Buffer> {
+impl Model for Buffer {
+    fn fresh(sizes: Sizes) -> Option<Buffer> {
         sizes.accepted().then(|| Buffer {
             sizes,
             phase: 0,
@@ -56,17 +57,8 @@ impl Buffer {
         })
     }
 
-    /// One slot, with an arrival (queue and value) and a request (queue). A refused one changes nothing.
-    pub fn slot(&mut self, arrival: Option<(u8, u8)>, request: Option<u8>, store: &mut [u8]) -> Answer {
-        self.try_slot(arrival, request, store).unwrap_or_else(|number| Answer { number, ..Answer::default() })
-    }
-
-    fn try_slot(
-        &mut self,
-        arrival: Option<(u8, u8)>,
-        request: Option<u8>,
-        store: &mut [u8],
-    ) -> Result<Answer, u8> {
+    #[inline]
+    fn try_slot(&mut self, arrival: Arrival, request: Request, store: &mut [u8]) -> Result<u64, u8> {
         let Sizes { block, depth, .. } = self.sizes;
 
         // Everything is judged before anything moves.
@@ -152,13 +144,22 @@ impl Buffer {
         } else {
             self.phase += 1;
         }
-        Ok(Answer { number: 0, delivery, written, read })
+        Ok(delivery.map_or(0, words::delivered)
+            | written.map_or(0, words::written)
+            | read.map_or(0, words::read))
     }
 
+    fn marks(&self) -> [usize; 2] {
+        [self.tail_mark, self.head_mark]
+    }
+}
+
+impl Buffer {
     /// The queue of the first Owed cell that its queue's head bytes do not cover. `joining` is the queue of
     /// an Owed cell about to join. The cell about to leave is scanned with the rest: it is covered, and uses
     /// up the head byte that it delivers.
-    fn uncovered(&self, joining: Option<u8>) -> Option<u8> {
+    #[inline]
+    fn uncovered(&self, joining: Option<u16>) -> Option<u16> {
         let mut left = [0; MOST_QUEUES];
         for (left, queue) in left.iter_mut().zip(&self.queues) {
             *left = queue.head.len();
@@ -175,20 +176,21 @@ impl Buffer {
     }
 
     /// The queue with most tail bytes, a block of them or more, and the lowest number on a tie.
-    fn fullest(&self) -> Option<u8> {
+    fn fullest(&self) -> Option<u16> {
         let mut most = self.sizes.block - 1;
         let mut fullest = None;
         for (number, queue) in self.queues.iter().enumerate() {
             if queue.tail.len() > most {
                 most = queue.tail.len();
-                fullest = Some(number as u8);
+                fullest = Some(number as u16);
             }
         }
         fullest
     }
 
     /// The oldest tail bytes of a queue go to the next block of its ring.
-    fn write(&mut self, number: u8, store: &mut [u8]) {
+    #[inline]
+    fn write(&mut self, number: u16, store: &mut [u8]) {
         let Sizes { block, depth, .. } = self.sizes;
         let queue = &mut self.queues[number as usize];
         let at = (number as usize * depth + (queue.first + queue.blocks) % depth) * block;
@@ -200,7 +202,8 @@ impl Buffer {
     }
 
     /// The first block of a queue's ring goes to the head.
-    fn read(&mut self, number: u8, store: &[u8]) {
+    #[inline]
+    fn read(&mut self, number: u16, store: &[u8]) {
         let Sizes { block, depth, .. } = self.sizes;
         let queue = &mut self.queues[number as usize];
         let at = (number as usize * depth + queue.first) * block;
@@ -210,23 +213,4 @@ impl Buffer {
         self.head_bytes += block;
         self.head_mark = self.head_mark.max(self.head_bytes);
     }
-}
-
-/// A list of slots from a fresh state, an answer word for each; false where the sizes are refused.
-pub fn run(sizes: Sizes, calls: &[u32], lent: &mut Lent) -> bool {
-    run_then_idle(sizes, calls, lent, 0)
-}
-
-/// The same, and then so many idle slots, one by one and with no word for them.
-pub fn run_then_idle(sizes: Sizes, calls: &[u32], lent: &mut Lent, idle_slots: usize) -> bool {
-    let Some(mut buffer) = Buffer::new(sizes) else { return false };
-    for (&call, answer) in calls.iter().zip(&mut lent.answers) {
-        let (arrival, request) = halves(call);
-        *answer = buffer.slot(arrival, request, &mut lent.store).word();
-    }
-    for _ in 0..idle_slots {
-        black_box(buffer.slot(None, None, &mut lent.store));
-    }
-    lent.marks = [buffer.tail_mark, buffer.head_mark];
-    true
 }

@@ -1,16 +1,17 @@
 //! Lists of calls for tests, of which natural Rust tells which were taken.
 
+use crate::model::Model;
 use crate::natural::Buffer;
 use crate::traffic::{search, Random};
-use crate::words::call;
+use crate::words::{call, number};
 use crate::Sizes;
 
 /// Stretches of changing habits, from filling a few queues to emptying them. Most calls make
 /// sense, some are for any queue, and a few for a queue that does not exist.
-pub fn rough(sizes: Sizes, slots: usize, seed: u64) -> Vec<u32> {
+pub fn rough(sizes: Sizes, slots: usize, seed: u64) -> Vec<u64> {
     let random = &mut Random(seed);
     let Sizes { queues, block, depth } = sizes;
-    let mut buffer = Buffer::new(sizes).expect("these sizes are accepted");
+    let mut buffer = Buffer::fresh(sizes).expect("these sizes are accepted");
     let mut store = vec![0; sizes.store()];
     let mut unasked = vec![0; queues];
     let mut calls = Vec::with_capacity(slots);
@@ -22,7 +23,8 @@ pub fn rough(sizes: Sizes, slots: usize, seed: u64) -> Vec<u32> {
         let span = random.pick(&[1, 2, queues]);
         for _ in 0..1 + random.below(sizes.lookahead() + 20) {
             let mut queue = |makes_sense: &dyn Fn(usize) -> bool| match random.below(100) {
-                0 => Some(random.pick(&[queues, queues + 1, 255])),
+                // As a byte 256 would be queue 0, and so would 1,024 in the ten bits that an answer has for one.
+                0 => Some(random.pick(&[queues, queues + 1, 255, 256, 1024, 65535])),
                 1..=5 => Some(random.below(queues)),
                 _ => search(queues, (first + random.below(span)) % queues, makes_sense),
             };
@@ -30,9 +32,10 @@ pub fn rough(sizes: Sizes, slots: usize, seed: u64) -> Vec<u32> {
             let asked = queue(&|queue| unasked[queue] > 0);
             let arriving = arriving.filter(|_| random.percent(arrivals));
             let asked = asked.filter(|_| random.percent(requests));
-            let arrival = arriving.map(|queue| (queue as u8, random.byte()));
-            let request = asked.map(|queue| queue as u8);
-            if buffer.slot(arrival, request, &mut store).number == 0 {
+            let arrival = arriving.map(|queue| (queue as u16, random.byte()));
+            let request = asked.map(|queue| queue as u16);
+            let call = call(arrival, request);
+            if number(buffer.slot(call, &mut store)) == 0 {
                 if let Some(queue) = arriving {
                     unasked[queue] += 1;
                 }
@@ -40,7 +43,7 @@ pub fn rough(sizes: Sizes, slots: usize, seed: u64) -> Vec<u32> {
                     unasked[queue] -= 1;
                 }
             }
-            calls.push(call(arrival, request));
+            calls.push(call);
         }
     }
     calls.truncate(slots);

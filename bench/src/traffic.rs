@@ -5,8 +5,12 @@ use crate::Sizes;
 
 #[derive(Clone, Copy)]
 pub enum Traffic {
-    /// An arrival in every slot where some queue has room, a request where one has a byte left to ask for.
+    /// An arrival in every slot where some queue has room, a request where one has a byte left to ask for, both
+    /// of random queues.
     Full,
+    /// The same arrivals, and requests that go round the queues in order: all of them order blocks at about the
+    /// same time.
+    RoundRobin,
     /// Each half with probability 1/2, for any queue: full and empty queues refuse some.
     Random,
     /// Nothing, after a short prelude.
@@ -14,20 +18,22 @@ pub enum Traffic {
 }
 
 impl Traffic {
-    pub const ALL: [Traffic; 3] = [Traffic::Full, Traffic::Random, Traffic::Idle];
+    pub const ALL: [Traffic; 4] = [Traffic::Full, Traffic::RoundRobin, Traffic::Random, Traffic::Idle];
 
     pub fn name(self) -> &'static str {
         match self {
             Traffic::Full => "full",
+            Traffic::RoundRobin => "round robin",
             Traffic::Random => "random",
             Traffic::Idle => "idle",
         }
     }
 
-    pub fn calls(self, sizes: Sizes, slots: usize, seed: u64) -> Vec<u32> {
+    pub fn calls(self, sizes: Sizes, slots: usize, seed: u64) -> Vec<u64> {
         let random = &mut Random(seed);
         match self {
-            Traffic::Full => full(sizes, slots, random),
+            Traffic::Full => full(sizes, slots, random, |random, _| random.below(sizes.queues)),
+            Traffic::RoundRobin => full(sizes, slots, random, |_, next| next),
             Traffic::Random => any(sizes, slots, random),
             Traffic::Idle => {
                 let mut calls = prelude(sizes);
@@ -38,13 +44,20 @@ impl Traffic {
     }
 }
 
-/// Arrivals alone until a quarter of the store is full, then both halves in every slot.
-fn full(sizes: Sizes, slots: usize, random: &mut Random) -> Vec<u32> {
+/// Arrivals alone until a quarter of the store is full, then both halves in every slot. `start` tells at which
+/// queue the search for one to ask begins, where the last that was asked is the one before `next`.
+fn full(
+    sizes: Sizes,
+    slots: usize,
+    random: &mut Random,
+    start: impl Fn(&mut Random, usize) -> usize,
+) -> Vec<u64> {
     let Sizes { queues, block, depth } = sizes;
     let warm_up = sizes.store() / 4;
     // Bytes of each queue that nobody has asked for, kept a block below the ring's size.
     let mut unasked = vec![0; queues];
     let most = (depth - 1) * block;
+    let mut next = 0;
     let mut calls = Vec::with_capacity(slots);
     for slot in 0..slots {
         let arriving = search(queues, random.below(queues), |queue| unasked[queue] < most);
@@ -53,29 +66,30 @@ fn full(sizes: Sizes, slots: usize, random: &mut Random) -> Vec<u32> {
         }
         let mut asked = None;
         if slot >= warm_up {
-            asked = search(queues, random.below(queues), |queue| unasked[queue] > 0);
+            asked = search(queues, start(random, next), |queue| unasked[queue] > 0);
         }
         if let Some(queue) = asked {
             unasked[queue] -= 1;
+            next = (queue + 1) % queues;
         }
-        let arrival = arriving.map(|queue| (queue as u8, random.byte()));
-        calls.push(call(arrival, asked.map(|queue| queue as u8)));
+        let arrival = arriving.map(|queue| (queue as u16, random.byte()));
+        calls.push(call(arrival, asked.map(|queue| queue as u16)));
     }
     calls
 }
 
 /// Each queue is first filled to some random height, so that full and empty ones are met from the start.
-fn any(sizes: Sizes, slots: usize, random: &mut Random) -> Vec<u32> {
+fn any(sizes: Sizes, slots: usize, random: &mut Random) -> Vec<u64> {
     let Sizes { queues, block, depth } = sizes;
     let mut calls = Vec::with_capacity(slots);
     for queue in 0..queues {
         for _ in 0..random.below(depth * block + 1) {
-            calls.push(call(Some((queue as u8, random.byte())), None));
+            calls.push(call(Some((queue as u16, random.byte())), None));
         }
     }
     while calls.len() < slots {
-        let arrival = random.percent(50).then(|| (random.below(queues) as u8, random.byte()));
-        let request = random.percent(50).then(|| random.below(queues) as u8);
+        let arrival = random.percent(50).then(|| (random.below(queues) as u16, random.byte()));
+        let request = random.percent(50).then(|| random.below(queues) as u16);
         calls.push(call(arrival, request));
     }
     calls.truncate(slots);
@@ -84,8 +98,8 @@ fn any(sizes: Sizes, slots: usize, random: &mut Random) -> Vec<u32> {
 
 /// A short list that leaves work behind: some blocks of queue 0 wait in the store, most of two are asked for,
 /// and two tails grow until one of them is due to be written in the slot that follows.
-pub fn prelude(sizes: Sizes) -> Vec<u32> {
-    let (block, last) = (sizes.block, sizes.queues as u8 - 1);
+pub fn prelude(sizes: Sizes) -> Vec<u64> {
+    let (block, last) = (sizes.block, sizes.queues as u16 - 1);
     let fill = (0..3 * block).map(|value| call(Some((0, value as u8)), None));
     let ask = (1..2 * block).map(|value| call(Some(([0, last][value % 2], value as u8)), Some(0)));
     fill.chain(ask).collect()

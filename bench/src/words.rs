@@ -1,43 +1,50 @@
-//! A call and an answer as one word each, as the proved library takes and gives them.
+//! A call and an answer as one word each, as the proved library takes and gives them (include/gelwynnar.h).
 
-/// A call as one word: bits 0 to 7 the arriving value, 8 to 15 its queue, 16 whether there is an arrival,
-/// 17 to 24 the queue asked, 25 whether there is a request.
-pub fn call(arrival: Option<(u8, u8)>, request: Option<u8>) -> u32 {
-    let arrival = arrival.map_or(0, |(queue, value)| value as u32 | (queue as u32) << 8 | 1 << 16);
-    let request = request.map_or(0, |queue| (queue as u32) << 17 | 1 << 25);
+/// The byte that arrives in a slot, if one does: its queue and its value.
+pub type Arrival = Option<(u16, u8)>;
+
+/// The queue that is asked for a byte in a slot, if one is.
+pub type Request = Option<u16>;
+
+/// A call as one word: bits 0 to 7 the arriving value, 8 to 23 its queue, 24 whether a byte arrives, 25 to 40
+/// the queue asked, 41 whether one is asked.
+pub fn call(arrival: Arrival, request: Request) -> u64 {
+    let arrival = arrival.map_or(0, |(queue, value)| 1 << 24 | (queue as u64) << 8 | value as u64);
+    let request = request.map_or(0, |queue| 1 << 41 | (queue as u64) << 25);
     arrival | request
 }
 
-/// The arrival (queue and value) and the request (queue) of a call.
-#[inline]
-pub fn halves(call: u32) -> (Option<(u8, u8)>, Option<u8>) {
-    let arrival = (call >> 16 & 1 == 1).then_some(((call >> 8) as u8, call as u8));
-    let request = (call >> 25 & 1 == 1).then_some((call >> 17) as u8);
+/// The arrival and the request of a call. No other bit is looked at.
+pub fn halves(call: u64) -> (Arrival, Request) {
+    let arrival = (call >> 24 & 1 == 1).then_some(((call >> 8) as u16, call as u8));
+    let request = (call >> 41 & 1 == 1).then_some((call >> 25) as u16);
     (arrival, request)
 }
 
-/// What a slot says: 0 or the number of its refusal, the queue and value delivered, the queues moved.
-#[derive(Default)]
-pub struct Answer {
-    pub number: u8,
-    pub delivery: Option<(u8, u8)>,
-    pub written: Option<u8>,
-    pub read: Option<u8>,
+// An answer is the parts of it that there are: 0 where nothing left and nothing moved. Bits 41 to 55, slots left and
+// what was dropped, are 0.
+
+/// Bits 0 to 7 the delivered value, 8 to 17 its queue, 18 that there is one.
+pub fn delivered((queue, value): (u16, u8)) -> u64 {
+    1 << 18 | (queue as u64) << 8 | value as u64
 }
 
-impl Answer {
-    /// The answer as one word: bits 0 to 7 the delivered value, 8 to 15 its queue, 16 whether there is a
-    /// delivery, 17 to 24 the queue written, 25 whether one was, 26 to 33 the queue read, 34 whether one was,
-    /// from bit 35 on the number of the refusal or 0.
-    #[inline]
-    pub fn word(&self) -> u64 {
-        let (queue, value) = self.delivery.unwrap_or((0, 0));
-        let queue_and_mark = |queue: Option<u8>| queue.map_or(0, |queue| queue as u64 | 1 << 8);
-        value as u64
-            | (queue as u64) << 8
-            | (self.delivery.is_some() as u64) << 16
-            | queue_and_mark(self.written) << 17
-            | queue_and_mark(self.read) << 26
-            | (self.number as u64) << 35
-    }
+/// Bits 19 to 28 the queue written, 29 that one was.
+pub fn written(queue: u16) -> u64 {
+    1 << 29 | (queue as u64) << 19
+}
+
+/// Bits 30 to 39 the queue read, 40 that one was.
+pub fn read(queue: u16) -> u64 {
+    1 << 40 | (queue as u64) << 30
+}
+
+/// Bits 56 to 63 the number of the refusal, and then there is no other part.
+pub fn refused(number: u8) -> u64 {
+    (number as u64) << 56
+}
+
+/// The number of an answer: 0, or the refusal.
+pub fn number(answer: u64) -> u8 {
+    (answer >> 56) as u8
 }

@@ -1,0 +1,174 @@
+//! The slot as one would write it in Rust to be fast, with nothing proved: nothing is shifted, once the state is made
+//! nothing is allocated, and all that is searched are the lengths of the tails, once in b slots.
+//!
+//! The cells are a ring: the one that leaves makes place for the one that joins. Refill orders are a list
+//! (request 2.12). What a refusal and the kind of a cell depend on is one number of each queue, which most moves do
+//! not touch. Refusals 8, 9 and 10 are not judged, since none comes from a fresh state; a debug build asserts it.
+
+mod head;
+mod tail;
+
+use crate::model::{Model, Natural};
+use crate::words::{self, Arrival, Request};
+use crate::{Sizes, MOST_QUEUES};
+use head::Head;
+use tail::Tail;
+
+/// A place of the lookahead: what comes out when it is the oldest.
+#[derive(Clone, Copy)]
+enum Cell {
+    Empty,
+    /// The byte travels in its cell.
+    Held(u16, u8),
+    /// The byte of this queue at that place of the head.
+    Owed(u16, u16),
+}
+
+#[derive(Clone, Copy)]
+struct Queue {
+    /// Bytes that may come before its tail bytes and blocks fill its K blocks.
+    room: u16,
+    /// Bytes of it in the store and in the head that nobody has asked for.
+    unasked: u16,
+    /// The blocks of its ring in the slow store that are written and read next.
+    write_next: u8,
+    read_next: u8,
+}
+
+pub static CAREFUL: Natural = Natural::of::<Buffer>("careful natural Rust");
+
+pub struct Buffer {
+    sizes: Sizes,
+    /// Bytes of slow store that a slot asks for.
+    store_bytes: usize,
+    phase: usize,
+    cells: Vec<Cell>,
+    oldest: usize,
+    queues: [Queue; MOST_QUEUES],
+    tail: Tail,
+    head: Head,
+}
+
+impl Model for Buffer {
+    fn fresh(sizes: Sizes) -> Option<Buffer> {
+        if !sizes.accepted() {
+            return None;
+        }
+        let room = (sizes.depth * sizes.block) as u16;
+        let queue = Queue { room, unasked: 0, write_next: 0, read_next: 0 };
+        Some(Buffer {
+            sizes,
+            store_bytes: sizes.store(),
+            phase: 0,
+            cells: vec![Cell::Empty; sizes.lookahead()],
+            oldest: 0,
+            queues: [queue; MOST_QUEUES],
+            tail: Tail::new(sizes),
+            head: Head::new(sizes),
+        })
+    }
+
+    #[inline]
+    fn try_slot(&mut self, arrival: Arrival, request: Request, store: &mut [u8]) -> Result<u64, u8> {
+        // Everything is judged before anything moves.
+        if store.len() < self.store_bytes {
+            return Err(2);
+        }
+        if let Some((queue, _)) = arrival {
+            if queue as usize >= self.sizes.queues {
+                return Err(4);
+            }
+            if self.queues[queue as usize].room == 0 {
+                return Err(5);
+            }
+        }
+        let mut request_is_owed = false;
+        if let Some(queue) = request {
+            if queue as usize >= self.sizes.queues {
+                return Err(6);
+            }
+            request_is_owed = self.queues[queue as usize].unasked > 0;
+            let arrives = arrival.is_some_and(|(arriving, _)| arriving == queue);
+            if !request_is_owed && !arrives && self.tail.lacks(queue) {
+                return Err(7);
+            }
+        }
+
+        // 1. The oldest cell leaves.
+        let mut answer = match self.cells[self.oldest] {
+            Cell::Empty => 0,
+            Cell::Held(queue, value) => words::delivered((queue, value)),
+            Cell::Owed(queue, place) => words::delivered((queue, self.head.leave(place))),
+        };
+        // 2. The arriving byte joins the tail.
+        if let Some((queue, value)) = arrival {
+            self.queues[queue as usize].room -= 1;
+            self.tail.join(queue, value);
+        }
+        // 3. The request takes the youngest cell, which lies where the oldest did.
+        self.cells[self.oldest] = match request {
+            None => Cell::Empty,
+            Some(queue) if request_is_owed => {
+                self.queues[queue as usize].unasked -= 1;
+                Cell::Owed(queue, self.head.ask(queue))
+            }
+            Some(queue) => {
+                self.queues[queue as usize].room += 1;
+                Cell::Held(queue, self.tail.leave(queue))
+            }
+        };
+        self.oldest += 1;
+        if self.oldest == self.cells.len() {
+            self.oldest = 0;
+        }
+        // 4. In the last phase, a write and then a read.  5. The phase rises by one.
+        self.phase += 1;
+        if self.phase == self.sizes.block {
+            self.phase = 0;
+            answer |= self.write(store).map_or(0, words::written);
+            answer |= self.read(store).map_or(0, words::read);
+        }
+        Ok(answer)
+    }
+
+    fn marks(&self) -> [usize; 2] {
+        [self.tail.mark(), self.head.mark()]
+    }
+}
+
+impl Buffer {
+    /// The fullest queue sends a block to its ring.
+    #[inline]
+    fn write(&mut self, store: &mut [u8]) -> Option<u16> {
+        let Sizes { block, depth, .. } = self.sizes;
+        let number = self.tail.fullest(block)?;
+        let queue = &mut self.queues[number as usize];
+        let at = (number as usize * depth + queue.write_next as usize) * block;
+        self.tail.leave_block(number, &mut store[at..at + block]);
+        queue.unasked += block as u16;
+        queue.write_next = next_block(queue.write_next, depth);
+        Some(number)
+    }
+
+    /// The oldest order is served: the first block of its queue's ring goes to the head.
+    #[inline]
+    fn read(&mut self, store: &[u8]) -> Option<u16> {
+        let Sizes { block, depth, .. } = self.sizes;
+        let order = self.head.next_order()?;
+        let queue = &mut self.queues[order.queue as usize];
+        let at = (order.queue as usize * depth + queue.read_next as usize) * block;
+        self.head.join_block(order, &store[at..at + block]);
+        queue.room += block as u16;
+        queue.read_next = next_block(queue.read_next, depth);
+        Some(order.queue)
+    }
+}
+
+/// The block after this one in a ring of `depth` blocks.
+fn next_block(number: u8, depth: usize) -> u8 {
+    if number as usize + 1 == depth {
+        0
+    } else {
+        number + 1
+    }
+}

@@ -1,0 +1,58 @@
+//! What the two natural models have in common: how a list of slots goes through one. The slot itself each has for
+//! itself, so that they check each other.
+
+use std::hint::black_box;
+
+use crate::words::{halves, refused, Arrival, Request};
+use crate::{Lent, Run, RunThenIdle, Sizes};
+
+/// A buffer in natural Rust.
+pub trait Model: Sized {
+    /// A fresh buffer, or none where the sizes are refused.
+    fn fresh(sizes: Sizes) -> Option<Self>;
+
+    /// One slot: its answer word; or the number of its refusal, and then nothing has changed.
+    fn try_slot(&mut self, arrival: Arrival, request: Request, store: &mut [u8]) -> Result<u64, u8>;
+
+    /// The most bytes that the tail and the head cache have held: the tail as an arrival joins it, the head as a
+    /// block is read.
+    fn marks(&self) -> [usize; 2];
+
+    /// The slot of a call, with an answer word for a refusal too.
+    fn slot(&mut self, call: u64, store: &mut [u8]) -> u64 {
+        let (arrival, request) = halves(call);
+        self.try_slot(arrival, request, store).unwrap_or_else(refused)
+    }
+}
+
+/// The lists through a natural model. Each model has a static of it, so that they are compiled here and not where they
+/// are called, and its slot may become part of them.
+#[derive(Clone, Copy)]
+pub struct Natural {
+    pub name: &'static str,
+    pub run: Run,
+    /// The idle slots one by one.
+    pub run_then_idle: RunThenIdle,
+}
+
+impl Natural {
+    pub const fn of<M: Model>(name: &'static str) -> Natural {
+        Natural { name, run: run::<M>, run_then_idle: run_then_idle::<M> }
+    }
+}
+
+fn run<M: Model>(sizes: Sizes, calls: &[u64], lent: &mut Lent) -> bool {
+    run_then_idle::<M>(sizes, calls, lent, 0)
+}
+
+fn run_then_idle<M: Model>(sizes: Sizes, calls: &[u64], lent: &mut Lent, idle_slots: usize) -> bool {
+    let Some(mut buffer) = M::fresh(sizes) else { return false };
+    for (&call, answer) in calls.iter().zip(&mut lent.answers) {
+        *answer = buffer.slot(call, &mut lent.store);
+    }
+    for _ in 0..idle_slots {
+        black_box(buffer.slot(0, &mut lent.store));
+    }
+    lent.marks = buffer.marks();
+    true
+}

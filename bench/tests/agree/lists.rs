@@ -1,0 +1,107 @@
+//! Lists of many slots.
+
+use bench::rough::rough;
+use bench::traffic::Traffic;
+use bench::words::halves;
+use bench::TABLE_SIZES;
+
+use super::*;
+
+/// Long enough for what is asked to come out again.
+fn long_enough(sizes: Sizes) -> usize {
+    2000 + 4 * sizes.lookahead()
+}
+
+fn random_calls(sizes: Sizes, seed: u64) -> Vec<u64> {
+    rough(sizes, long_enough(sizes), seed)
+}
+
+#[test]
+fn at_the_limits() {
+    for sizes in LIMITS {
+        for seed in 0..2 {
+            agree(sizes, &random_calls(sizes, seed), &random_store(sizes.store()));
+        }
+    }
+}
+
+#[test]
+fn at_small_sizes() {
+    for (seed, sizes) in small_sizes().into_iter().enumerate() {
+        agree(sizes, &random_calls(sizes, seed as u64), &random_store(sizes.store() + seed % 3));
+    }
+}
+
+#[test]
+fn no_list_and_a_longer_store() {
+    for sizes in LIMITS {
+        agree(sizes, &[], &random_store(sizes.store()));
+        agree(sizes, &random_calls(sizes, 2), &random_store(sizes.store() + 100));
+    }
+}
+
+#[test]
+fn in_round_robin() {
+    for (seed, sizes) in many_sizes() {
+        let calls = Traffic::RoundRobin.calls(sizes, long_enough(sizes), seed);
+        agree(sizes, &calls, &random_store(sizes.store()));
+    }
+}
+
+/// The comparison would say little of lists in which nothing happens.
+#[test]
+fn much_happens_in_the_lists() {
+    let mut refusals = [0; 11];
+    for (_, sizes) in many_sizes() {
+        let store = vec![0; sizes.store()];
+        let answers = |seed| outcome(PLAIN.run, sizes, &random_calls(sizes, seed), &store).answers;
+        let answers = [answers(0), answers(1)].concat();
+        for &answer in &answers {
+            refusals[number(answer) as usize] += 1;
+        }
+        assert!(answers.iter().any(|&answer| delivery(answer).is_some()), "{sizes:?}: no delivery");
+        assert!(answers.iter().any(|&answer| written(answer).is_some()), "{sizes:?}: no write");
+        assert!(answers.iter().any(|&answer| read(answer).is_some()), "{sizes:?}: no read");
+    }
+    assert!([4, 5, 6, 7].into_iter().all(|number| refusals[number] > 100), "{refusals:?}");
+    assert!([1, 2, 3, 8, 9, 10].into_iter().all(|number| refusals[number] == 0), "{refusals:?}");
+}
+
+/// Full traffic and round robin are never refused, and random traffic is where a queue is full or empty.
+#[test]
+fn the_traffic_of_the_table() {
+    for sizes in TABLE_SIZES {
+        for traffic in Traffic::ALL {
+            let answers = agree(sizes, &traffic.calls(sizes, 10_000, 1), &random_store(sizes.store()));
+            let refused = |sought| answers.iter().any(|&answer| number(answer) == sought);
+            let random = matches!(traffic, Traffic::Random);
+            assert_eq!([5, 7].map(refused), [random, random], "{sizes:?}, {}", traffic.name());
+            assert!(answers.iter().all(|&answer| [0, 5, 7].contains(&number(answer))));
+        }
+    }
+}
+
+/// Each request is of the next queue, from the last one asked and round, that has a byte to ask for.
+#[test]
+fn round_robin_goes_round() {
+    for sizes in TABLE_SIZES {
+        let queues = sizes.queues;
+        let mut unasked = vec![0; queues];
+        let mut last = queues - 1;
+        let mut requests = 0;
+        for call in Traffic::RoundRobin.calls(sizes, 10_000, 1) {
+            let (arrival, request) = halves(call);
+            let (arriving, _) = arrival.expect("a byte arrives in every slot");
+            unasked[arriving as usize] += 1;
+            if let Some(asked) = request {
+                let next =
+                    (last + 1..=last + queues).map(|queue| queue % queues).find(|&queue| unasked[queue] > 0);
+                assert_eq!(Some(asked as usize), next, "{sizes:?}");
+                last = asked as usize;
+                unasked[last] -= 1;
+                requests += 1;
+            }
+        }
+        assert_eq!(requests, 10_000 - sizes.store() / 4, "{sizes:?}: once a quarter of the store is full");
+    }
+}

@@ -1,8 +1,7 @@
 //! Judging, reading and writing, beside the second program's.
 
+use gelwynnar::script::{self as library, Numbers};
 use second::script::{read_script, Command, Fault};
-
-use crate::library::{self, Numbers};
 
 /// A byte that no writer is to touch.
 const UNTOUCHED: u8 = 0xA5;
@@ -74,16 +73,58 @@ fn writes(command: Numbers, bytes: &[u8]) -> Result<(), String> {
 
 /// A command of the second program as the boundary has it.
 fn numbers(command: Command) -> Numbers {
-    let queue = |queue: usize| queue as u64;
-    match command {
-        Command::Sizes(sizes) => [16, sizes.q as u64, sizes.b as u64, sizes.k as u64],
-        Command::Idle => [0, 0, 0, 0],
-        Command::Arrival { queue: q, byte } => [1, queue(q), byte.into(), 0],
-        Command::Request { queue: q } => [2, queue(q), 0, 0],
+    let narrow = |number: usize| u16::try_from(number).expect("an operand has two bytes at most");
+    let (code, operands) = match command {
+        Command::Sizes(sizes) => (16, [sizes.q, sizes.b, sizes.k]),
+        Command::Idle => (0, [0; 3]),
+        Command::Arrival { queue, byte } => (1, [queue, byte.into(), 0]),
+        Command::Request { queue } => (2, [queue, 0, 0]),
         Command::Both { arrival_queue, byte, request_queue } => {
-            [3, queue(arrival_queue), byte.into(), queue(request_queue)]
+            (3, [arrival_queue, byte.into(), request_queue])
         }
-        Command::IdleCount(count) => [4, count.into(), 0, 0],
-        Command::End => [5, 0, 0, 0],
+        Command::IdleCount(count) => (4, [count as usize, 0, 0]),
+        Command::End => (5, [0; 3]),
+    };
+    Numbers { code, operands: operands.map(narrow) }
+}
+
+/// How many operands each command has, by its code, and how wide they are: below 256, but for the count.
+const OPERANDS: [(u16, usize, u16); 7] =
+    [(16, 3, 255), (0, 0, 0), (1, 2, 255), (2, 1, 255), (3, 3, 255), (4, 1, u16::MAX), (5, 0, 0)];
+
+/// Numbers that are no command are refused, and nothing is touched: 12 for a code of none, 16 for an operand that is too
+/// wide or that the command does not have. One test for each code: all small ones, and some of the others.
+pub fn refused_numbers() -> Vec<Result<(), String>> {
+    let codes = (0..=600).chain((601..=u16::MAX).step_by(97)).chain([u16::MAX]);
+    codes.map(operands_at_the_edges).collect()
+}
+
+fn operands_at_the_edges(code: u16) -> Result<(), String> {
+    let row = OPERANDS.iter().find(|row| row.0 == code);
+    for place in 0..3 {
+        for value in [0, 1, 255, 256, 257, u16::MAX] {
+            let mut operands = [0; 3];
+            operands[place] = value;
+            let most = row.map(|&(_, count, most)| if place < count { most } else { 0 });
+            let expected = match most {
+                None => Some(12),
+                Some(most) if value > most => Some(16),
+                Some(_) => None,
+            };
+            refuses(Numbers { code, operands }, expected)?;
+        }
+    }
+    Ok(())
+}
+
+fn refuses(command: Numbers, expected: Option<u8>) -> Result<(), String> {
+    let mut output = [UNTOUCHED; 8];
+    match (library::write(command, &mut output), expected) {
+        (Err(number), Some(expected)) if number == expected && output == [UNTOUCHED; 8] => Ok(()),
+        (Ok(length), None) => match library::read(&output[..length], command.code == 16) {
+            Ok((found, read)) if found == command && read == length => Ok(()),
+            found => Err(format!("{command:?} reads back as {found:?}")),
+        },
+        (found, _) => Err(format!("{command:?}: {found:?}, {output:?}, expected {expected:?}")),
     }
 }

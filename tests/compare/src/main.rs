@@ -6,12 +6,11 @@
 //!
 //! Each script is judged, read command by command, written back and run by both, in just as much output as is asked for
 //! it and, of the proved runner alone, in one byte less. PROGRAM is the program `slots`: every hundredth script, and
-//! those at the edges of the format, also go through it. Prints how often each line and each refusal occurred; one that
-//! never occurred is a failure. `compare program` tests the program alone, on inputs that come in parts and on inputs
+//! those at the edges of the format, also go through it. Numbers that are no command go to the writer. Prints how often
+//! each line and each refusal occurred; one that never occurred is a failure. `compare program` tests the program alone, on inputs that come in parts and on inputs
 //! and outputs that fail. The last line is 'N passed, M failed'.
 
 mod commands;
-mod library;
 mod program;
 mod scripts;
 mod seen;
@@ -57,12 +56,18 @@ fn main() -> ExitCode {
             failed += 1;
         }
     }
+    let numbers = commands::refused_numbers();
+    for what in numbers.iter().filter_map(|result| result.as_ref().err()) {
+        println!("{what}");
+        failed += 1;
+    }
     println!("{seen}");
     for kind in seen.never() {
         println!("{kind} never occurred");
         failed += 1;
     }
-    println!("{} passed, {failed} failed", all.len() - failed.min(all.len()));
+    let tests = all.len() + numbers.len();
+    println!("{} passed, {failed} failed", tests - failed.min(tests));
     if failed == 0 {
         ExitCode::SUCCESS
     } else {

@@ -2,10 +2,10 @@
 
 use std::time::{Duration, Instant};
 
+use gelwynnar::script as library;
 use second::program::run_script;
 use second::random::Random;
 
-use crate::library;
 use crate::scripts;
 use crate::texts::STORE_LENGTH;
 

@@ -1,8 +1,8 @@
 //! What a script prints, beside the second program's text.
 
+use gelwynnar::script as library;
 use second::program::run_script;
 
-use crate::library;
 use crate::program::same;
 
 /// What the program lends.

@@ -402,7 +402,9 @@ fn paths_of(tree: &Tree, word: &str) -> Vec<String> {
     let parts: Vec<&str> = word.split('/').collect();
     let inner = ["specs", "proofs", "src", "must-fail"];
     match parts[..] {
-        ["crates" | "docs" | "tests" | "examples" | "bench" | ".ci", _, ..] => vec![word.to_string()],
+        ["crates" | "docs" | "tests" | "examples" | "include" | "rust" | "bench" | ".ci", _, ..] => {
+            vec![word.to_string()]
+        }
         // What a build leaves is not of the tree.
         ["target", ..] => Vec::new(),
         [first, second, ..] if tree.has_crate(first) || inner.contains(&second) => {

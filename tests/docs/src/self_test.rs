@@ -3,7 +3,7 @@
 use crate::check::{check, Report};
 use crate::tree::{Files, Tree};
 
-const REPOSITORY: [(&str, &str); 10] = [
+const REPOSITORY: [(&str, &str); 11] = [
     ("crates.txt", "# 1. Below.\nlow:\n\n# 2. Above.\nhigh_up: low\n"),
     (
         "crates/low/specs/Says.antt",
@@ -15,12 +15,19 @@ const REPOSITORY: [(&str, &str); 10] = [
     ("crates/low/proofs/add_up/Proof.antt", "it : ℕ\n"),
     ("crates/low/src/lib.rt", "pub struct Pair {\n    pub left: u8,\n}\n\nimpl Pair {\n    pub fn swap(self) -> u8 {\n    }\n}\n\npub fn add_up(n: usize) -> usize {\n    let local = n;\n}\n"),
     ("crates/high_up/src/lib.rt", "pub enum Shape {\n    Square(u8),\n}\n\npub const MOST: usize = 3;\n"),
+    (
+        "include/low.h",
+        "/* An old_name (gone). */\n#define LOW_MOST 3\nenum low_reg {\n    LOW_FIRST,\n};\n\ntypedef struct low_pair {\n    \
+         uint8_t low_left[LOW_MOST]; /* one */\n} low_pair;\n\nuint8_t low_add(uint8_t low_other,\n                \
+         uint8_t low_more);\nstatic inline uint8_t low_one(void) { return low_add(1, 0); }\n",
+    ),
     ("crates/low/must-fail/one_more.edit", "One is added.\nfile: src/lib.rt\n"),
     (
         "README.md",
         "# A title\n\n`sum` and `Said` .number-is, .left in crates/low/specs/Says.antt; `sum-zero` (low/proofs/{Laws, add_up}),\n\
          `low::add_up`, `Pair::swap`, `Shape::Square`, `inside`, `round`. low: one_more, and high_up is above.\n\
-         \"crates/gone and an old_name\" are quoted; `let local = ..;` is code, `D t 0` a line, `rt check low` a command.\n\n    \
+         \"crates/gone and an old_name\" are quoted; `let local = ..;` is code, `D t 0` a line, `rt check low` a command.\n\
+         Of include/low.h: LOW_MOST, LOW_FIRST, `low_pair`, low_left, `low_add` and low_one.\n\n    \
          rt dev high_up      # in docs/PROMISES.md\n",
     ),
     (
@@ -36,7 +43,7 @@ const REPOSITORY: [(&str, &str); 10] = [
 ];
 
 /// A document, what stands in it, what is put there, and what the check must then say.
-const WRONG: [(&str, &str, &str, &str); 33] = [
+const WRONG: [(&str, &str, &str, &str); 37] = [
     ("README.md", "`sum`", "`sums`", "README.md:3: no such name: sums"),
     ("README.md", "`sum`", "`gone`", "README.md:3: no such name: gone"),
     ("README.md", "`sum`", "`lost`", "README.md:3: no such name: lost"),
@@ -59,8 +66,12 @@ const WRONG: [(&str, &str, &str, &str); 33] = [
     ("README.md", "high_up is", "high_down is", "no such name: high_down"),
     ("README.md", "`let local = ..;`", "`let other = ..;`", "README.md:5: in no source: let other ="),
     ("README.md", "`rt check low`", "`rt check lower`", "no such crate: lower"),
-    ("README.md", "rt dev high_up", "rt dev higher", "README.md:7: no such crate: higher"),
+    ("README.md", "rt dev high_up", "rt dev higher", "README.md:8: no such crate: higher"),
     ("README.md", "in docs/PROMISES.md", "in docs/PROMISE.md", "no such path: docs/PROMISE.md"),
+    ("README.md", "Of include/low.h", "Of include/gone.h", "no such path: include/gone.h"),
+    ("README.md", "`low_add`", "`low_other`", "README.md:6: no such name: low_other"),
+    ("README.md", "`low_add`", "`low_more`", "no such name: low_more"),
+    ("README.md", "LOW_FIRST", "old_name", "no such name: old_name"),
     ("docs/ARCHITECTURE.md", "| high_up | b |\n", "", "no row for the crate high_up"),
     ("docs/ARCHITECTURE.md", "| high_up |", "| high |", "docs/ARCHITECTURE.md:4: no such crate: high"),
     ("docs/ARCHITECTURE.md", "| low | a |\n| high_up | b |", "| high_up | b |\n| low | a |", "in that order"),

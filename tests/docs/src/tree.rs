@@ -49,13 +49,15 @@ impl Tree {
             }
         }
         for (path, text) in &files {
-            // What checks the documents is no source of theirs: its tests of itself name what is not there.
-            if path.starts_with("tests/docs/") {
+            // What checks the documents is no source of theirs: its tests of itself name what is not there. So do those
+            // of the header.
+            if path.starts_with("tests/docs/") || path == "tests/header/src/self_test.rs" {
                 continue;
             }
             let found = match path.rsplit_once('.') {
                 Some((_, "antt")) => statements(text),
                 Some((_, "rt" | "rs")) => items(text),
+                Some((_, "h" | "c")) => declarations(text),
                 _ if text.starts_with("#!") => functions(text),
                 _ => continue,
             };
@@ -224,6 +226,39 @@ fn items(text: &str) -> Found {
                 found.push((word.to_string(), Some(name.clone())));
             }
             _ => {}
+        }
+    }
+    found
+}
+
+/// Of a file of C: functions, numbers by name, structs with their fields, enums with what they name.
+fn declarations(text: &str) -> Found {
+    let mut found = Vec::new();
+    // The struct or the enum whose body these lines are.
+    let mut open: Option<String> = None;
+    for line in text.lines() {
+        let content = line.trim_start();
+        let in_name = |c: char| c.is_alphanumeric() || c == '_';
+        let mut words = content.split(|c| !in_name(c)).filter(|word| !word.is_empty());
+        if content.is_empty() || content.starts_with("/*") || line.starts_with(" *") {
+            continue;
+        }
+        if let Some(owner) = &open {
+            if line.starts_with('}') {
+                open = None;
+            } else if let Some(name) =
+                content.split(['[', ';', ',']).next().and_then(|it| it.split(' ').last())
+            {
+                found.push((name.to_string(), Some(owner.clone())));
+            }
+        } else if line.starts_with("#define ") {
+            found.extend(words.nth(1).map(|name| (name.to_string(), None)));
+        } else if (line.starts_with("typedef struct ") || line.starts_with("enum ")) && line.ends_with('{') {
+            open = words.last().map(str::to_string);
+            found.extend(open.iter().map(|name| (name.clone(), None)));
+        } else if let Some((before, _)) = content.split_once('(').filter(|_| line == content) {
+            let name = before.rsplit(|c| !in_name(c)).next().unwrap_or("");
+            found.push((name.to_string(), None));
         }
     }
     found

@@ -6,7 +6,7 @@ use crate::breaks::{broken_state, Break, ALL};
 use crate::buffer::Answer;
 use crate::lines::{design_word, print_answer, print_call, print_sizes, print_state, print_store};
 use crate::random::Random;
-use crate::random_state::{random_state, Amount, Lean};
+use crate::random_state::{random_state, Lean};
 use crate::raw::RawState;
 use crate::rules::Cell;
 use crate::sizes::{Design, Sizes};
@@ -86,25 +86,7 @@ fn case_with_answer(random: &mut Random, goal: u8) -> Case {
 fn leaning_case(random: &mut Random, goal: u8) -> Case {
     let design = random_design(random);
     let sizes = random_sizes(random, design);
-    let mut lean = Lean::random(random);
-    match goal {
-        5 => lean.blocks = Amount::Full,
-        7 => lean.tail = Amount::Empty,
-        8 => {
-            lean.head = random.pick(&[Amount::Empty, Amount::Any]);
-            lean.owed = 80;
-        }
-        9 => {
-            lean.tail = Amount::Full;
-            lean.blocks = random.pick(&[Amount::Empty, Amount::Any]);
-        }
-        10 => {
-            lean.head = Amount::Full;
-            lean.blocks = random.pick(&[Amount::Any, Amount::Full]);
-            lean.owed = 80;
-        }
-        _ => {}
-    }
+    let lean = Lean::towards(random, goal);
     let state = random_state(random, sizes, design.cells(sizes), lean);
     // Troubles beside the goal stay in, so that the order of refusals shows.
     let trouble = if goal == 0 { 0 } else { 20 };

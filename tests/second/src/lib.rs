@@ -1,15 +1,15 @@
 //! A second program, written from the paper and the requests alone, to check the first against.
 
-mod breaks;
-mod buffer;
+pub mod breaks;
+pub mod buffer;
 pub mod cases;
 mod lines;
 pub mod lists;
 pub mod program;
 pub mod random;
-mod random_state;
-mod raw;
-mod rules;
+pub mod random_state;
+pub mod raw;
+pub mod rules;
 pub mod script;
 pub mod sizes;
 pub mod sizing;

@@ -54,6 +54,30 @@ impl Lean {
             most_bytes: usize::MAX,
         }
     }
+
+    /// Leans towards an answer, so that states give it often.
+    pub fn towards(random: &mut Random, goal: u8) -> Lean {
+        let mut lean = Lean::random(random);
+        match goal {
+            5 => lean.blocks = Amount::Full,
+            7 => lean.tail = Amount::Empty,
+            8 => {
+                lean.head = random.pick(&[Amount::Empty, Amount::Any]);
+                lean.owed = 80;
+            }
+            9 => {
+                lean.tail = Amount::Full;
+                lean.blocks = random.pick(&[Amount::Empty, Amount::Any]);
+            }
+            10 => {
+                lean.head = Amount::Full;
+                lean.blocks = random.pick(&[Amount::Any, Amount::Full]);
+                lean.owed = 80;
+            }
+            _ => {}
+        }
+        lean
+    }
 }
 
 /// A state that keeps the rules if the sizes are accepted. With other sizes

@@ -1,0 +1,375 @@
+/* The library as a C or C++ caller meets it: every function of include/gelwynnar.h at least once, inline ones included.
+ * A line for each failure; the last line is 'N passed, M failed', and the exit status 0 only where M is 0. */
+#include <stdio.h>
+#include <string.h>
+
+#include "gelwynnar.h"
+
+static int passed, failed;
+
+#define CHECK(what) check((what) ? 1 : 0, #what, __LINE__)
+
+static void check(int holds, const char *what, int line) {
+    if (holds) {
+        passed++;
+    } else {
+        failed++;
+        printf("tests/c/wrappers.c:%d: not so: %s\n", line, what);
+    }
+}
+
+/* ---- The nine slots of the README's table: Q = 2, b = 2, K = 4 ------------------------------------------------- */
+
+enum { SLOTS = 9, STORE = 2 * 4 * 2 };
+
+static gel_buffer by_slot, by_step, by_run, other;
+static uint8_t slot_store[STORE], step_store[STORE], run_store[STORE], other_store[STORE];
+static uint64_t calls[SLOTS], words[SLOTS], other_words[SLOTS];
+
+/* What each slot answers: number, dropped, delivers, writes, reads, value, queue, written, read, slots left. */
+static const gel_answer table[SLOTS] = {
+    {0, 0, 0, 0, 0, 0, 0, 0, 0, 0},   {0, 0, 0, 1, 0, 0, 0, 0, 0, 0},  {0, 0, 0, 0, 0, 0, 0, 0, 0, 0},
+    {0, 0, 0, 0, 1, 0, 0, 0, 0, 0},   {0, 0, 0, 0, 0, 0, 0, 0, 0, 0},  {0, 0, 1, 0, 0, 'a', 0, 0, 0, 0},
+    {0, 0, 1, 0, 0, 'x', 1, 0, 0, 0}, {0, 0, 1, 0, 0, 'b', 0, 0, 0, 0}, {0, 0, 1, 0, 0, 'y', 1, 0, 0, 0},
+};
+
+static const gel_answer nothing = {0, 0, 0, 0, 0, 0, 0, 0, 0, 0};
+
+static int same(gel_answer a, gel_answer b) {
+    return a.number == b.number && a.dropped == b.dropped && a.delivers == b.delivers && a.writes == b.writes &&
+           a.reads == b.reads && a.value == b.value && a.queue == b.queue && a.written == b.written &&
+           a.read == b.read && a.slots_left == b.slots_left;
+}
+
+/* An answer that is a refusal and nothing else. */
+static int refused(gel_answer a, uint8_t number) {
+    gel_answer b = nothing;
+    b.number = number;
+    return same(a, b);
+}
+
+static int same_buffer(const gel_buffer *a, const gel_buffer *b) { return memcmp(a, b, sizeof *a) == 0; }
+
+/* The same state and counts, whatever lies in places that do not count. */
+static int alike(const gel_buffer *a, const gel_buffer *b) {
+    const size_t *r = a->regs;
+    size_t queues = r[GEL_QUEUES], cells = queues * (r[GEL_BLOCK] - 1) + 1;
+    return memcmp(r, b->regs, sizeof a->regs) == 0 &&
+           memcmp(a->tail, b->tail, r[GEL_TAIL_FILL] * sizeof a->tail[0]) == 0 &&
+           memcmp(a->head, b->head, r[GEL_HEAD_FILL] * sizeof a->head[0]) == 0 &&
+           memcmp(a->cells, b->cells, cells * sizeof a->cells[0]) == 0 &&
+           memcmp(a->firsts, b->firsts, queues * sizeof a->firsts[0]) == 0 &&
+           memcmp(a->stored, b->stored, queues * sizeof a->stored[0]) == 0 &&
+           memcmp(a->tails, b->tails, queues * sizeof a->tails[0]) == 0 &&
+           memcmp(a->heads, b->heads, queues * sizeof a->heads[0]) == 0 &&
+           memcmp(a->owing, b->owing, queues * sizeof a->owing[0]) == 0;
+}
+
+static void set_calls(void) {
+    calls[0] = gel_arrive(0, 'a');
+    calls[1] = gel_arrive(0, 'b');
+    calls[2] = gel_both(1, 'x', 0);
+    calls[3] = gel_both(1, 'y', 1);
+    calls[4] = gel_ask(0);
+    calls[5] = gel_ask(1);
+    calls[6] = calls[7] = calls[8] = gel_nothing();
+}
+
+static void nine_slots(void) {
+    static gel_buffer kept;
+    static uint8_t kept_store[STORE];
+    set_calls();
+    CHECK(gel_buffer_open(&by_slot, 2, 2, 4) == 0);
+    CHECK(gel_buffer_open(&by_step, 2, 2, 4) == 0);
+    CHECK(gel_buffer_open(&by_run, 2, 2, 4) == 0);
+    CHECK(gel_buffer_run(&by_run, calls, words, SLOTS, run_store, STORE) == 0);
+    for (int t = 0; t < SLOTS; t++) {
+        CHECK(gel_buffer_judge(&by_slot, calls[t], STORE) == 0);
+        CHECK(same(gel_buffer_slot(&by_slot, calls[t], slot_store, STORE), table[t]));
+        CHECK(same(gel_buffer_step(&by_step, calls[t], step_store, STORE), table[t]));
+        CHECK(same(gel_answer_of(words[t]), table[t]));
+        CHECK(alike(&by_slot, &by_step) && memcmp(slot_store, step_store, STORE) == 0);
+        if (t == 2) { /* one Owed cell of queue 0, and no head byte; 256 is another queue, which there is not */
+            CHECK(gel_buffer_margin(&by_slot, 0) == -1);
+            CHECK(gel_buffer_margin(&by_slot, 1) == 0);
+            CHECK(gel_buffer_margin(&by_slot, 256) == 0);
+        }
+        if (t == 3) { /* two head bytes */
+            CHECK(gel_buffer_margin(&by_slot, 0) == 1);
+            CHECK(by_slot.regs[GEL_HEAD_FILL] == 2 && by_slot.regs[GEL_TAIL_FILL] == 1);
+            CHECK(by_slot.heads[0] == 2 && by_slot.tails[1] == 1 && by_slot.owing[0] == 1);
+            CHECK(by_slot.head[0] == 'a' && by_slot.head[1] == 'b' && by_slot.tail[0] == 256 + 'y');
+            CHECK(by_slot.cells[0] == 0 && by_slot.cells[1] == 2 * 65536 && by_slot.cells[2] == 65536 + 256 + 'x');
+            CHECK(by_slot.firsts[0] == 1 && by_slot.stored[0] == 0);
+            kept = by_slot;
+            memcpy(kept_store, slot_store, STORE);
+            CHECK(gel_buffer_open(&other, 2, 2, 4) == 0);
+            CHECK(gel_buffer_run(&other, calls, other_words, 4, other_store, STORE) == 0 && alike(&by_slot, &other));
+        }
+    }
+    CHECK(by_slot.regs[GEL_QUEUES] == 2 && by_slot.regs[GEL_BLOCK] == 2 && by_slot.regs[GEL_DEPTH] == 4);
+    CHECK(by_slot.regs[GEL_PHASE] == 1);
+    CHECK(by_slot.regs[GEL_TAIL_FILL] == 0 && by_slot.regs[GEL_HEAD_FILL] == 0);
+    CHECK(by_slot.regs[GEL_TAIL_MARK] == 2 && by_slot.regs[GEL_HEAD_MARK] == 2);
+    CHECK(alike(&by_slot, &by_run) && memcmp(slot_store, run_store, STORE) == 0);
+    CHECK(slot_store[0] == 'a' && slot_store[1] == 'b');
+    /* A place to come back to. */
+    for (int t = 4; t < SLOTS; t++) {
+        CHECK(same(gel_buffer_step(&kept, calls[t], kept_store, STORE), table[t]));
+    }
+}
+
+/* ---- What is refused ------------------------------------------------------------------------------------------- */
+
+static void sizes_refused(void) {
+    other = by_slot;
+    CHECK(gel_buffer_open(&other, 0, 2, 4) == 1 && gel_buffer_open(&other, 65, 1, 1) == 1);
+    CHECK(gel_buffer_open(&other, 2, 129, 4) == 1 && gel_buffer_open(&other, 2, 2, 256) == 1);
+    CHECK(gel_buffer_open(&other, 64, 33, 1) == 1 && gel_buffer_open(&other, SIZE_MAX, SIZE_MAX, SIZE_MAX) == 1);
+    CHECK(same_buffer(&other, &by_slot));
+    CHECK(gel_buffer_open(&other, 64, 32, 255) == 0 && gel_buffer_open(&other, 1, 1, 1) == 0);
+}
+
+/* A slot of `other` with this call is refused so, by judging too, and all is as it came. */
+static int refuses(uint64_t call, uint8_t number) {
+    static gel_buffer before;
+    uint8_t store[STORE];
+    before = other;
+    memcpy(store, other_store, STORE);
+    return gel_buffer_judge(&other, call, STORE) == number &&
+           refused(gel_buffer_slot(&other, call, other_store, STORE), number) && same_buffer(&other, &before) &&
+           memcmp(store, other_store, STORE) == 0;
+}
+
+static void slots_refused(void) {
+    CHECK(gel_buffer_open(&other, 2, 2, 4) == 0);
+    CHECK(refuses(gel_arrive(2, 'z'), 4) && refuses(gel_ask(2), 6));
+    CHECK(refuses(gel_arrive(256, 'z'), 4) && refuses(gel_ask(256), 6));
+    CHECK(refuses(gel_arrive(65535, 'z'), 4) && refuses(gel_ask(65535), 6));
+    CHECK(refuses(gel_both(256, 'z', 256), 4) && refuses(gel_both(0, 'z', 256), 6));
+    CHECK(refuses(gel_ask(1), 7) && refuses(gel_both(0, 'z', 1), 7));
+    CHECK(refused(gel_buffer_step(&other, gel_arrive(256, 'z'), other_store, STORE), 4));
+    CHECK(refused(gel_buffer_step(&other, gel_ask(256), other_store, STORE), 6));
+    /* A store that is too short, and none at all. */
+    CHECK(refused(gel_buffer_slot(&other, gel_arrive(0, 'z'), other_store, STORE - 1), 2));
+    CHECK(refused(gel_buffer_slot(&other, gel_arrive(256, 'z'), NULL, 0), 2));
+    CHECK(gel_buffer_judge(&other, gel_nothing(), STORE - 1) == 2 && gel_buffer_judge(&other, gel_nothing(), 0) == 2);
+    /* A full queue: one block of one byte. */
+    CHECK(gel_buffer_open(&other, 1, 1, 1) == 0);
+    CHECK(gel_buffer_slot(&other, gel_arrive(0, 'z'), other_store, 1).writes == 1 && other_store[0] == 'z');
+    CHECK(refused(gel_buffer_slot(&other, gel_arrive(0, 'z'), other_store, 1), 5));
+    /* A state that breaks a rule. */
+    CHECK(gel_buffer_open(&other, 2, 2, 4) == 0);
+    other.regs[GEL_PHASE] = 2;
+    other.tails[0] = 77;
+    CHECK(refuses(gel_nothing(), 3) && refuses(gel_arrive(256, 'z'), 3));
+    CHECK(refused(gel_buffer_slot(&other, gel_nothing(), NULL, 0), 3));
+    CHECK(gel_buffer_run(&other, calls, words, 2, other_store, STORE) == 3);
+    CHECK(refused(gel_answer_of(words[0]), 3) && refused(gel_answer_of(words[1]), 3));
+    CHECK(refused(gel_buffer_idle(&other, 5, other_store, STORE).last, 3));
+}
+
+/* The counts by queue of `other`, which has one tail byte of queue 1 and nothing else, are right. */
+static int counts_right(void) {
+    int right = other.tails[0] == 0 && other.tails[1] == 1 && other.heads[1] == 0 && other.owing[1] == 0;
+    other.tails[0] = other.heads[1] = other.owing[1] = 77;
+    return right;
+}
+
+/* Counts that are wrong are right after whatever judges the rules and does not answer 3. */
+static void counts_mended(void) {
+    CHECK(gel_buffer_open(&other, 2, 2, 4) == 0);
+    CHECK(same(gel_buffer_slot(&other, gel_arrive(1, 'z'), other_store, STORE), nothing) && counts_right());
+    CHECK(refused(gel_buffer_slot(&other, gel_ask(2), other_store, STORE), 6) && counts_right());
+    CHECK(refused(gel_buffer_slot(&other, gel_ask(2), NULL, 0), 2) && counts_right());
+    CHECK(same(gel_buffer_slot(&other, gel_nothing(), other_store, STORE), nothing) && counts_right());
+    CHECK(gel_buffer_run(&other, NULL, NULL, 0, other_store, STORE) == 0 && counts_right());
+    CHECK(gel_buffer_idle(&other, 7, other_store, STORE).passed == 7 && counts_right());
+}
+
+/* ---- Runs, idle slots, words ----------------------------------------------------------------------------------- */
+
+static void runs(void) {
+    uint64_t answers[3] = {~(uint64_t)0, ~(uint64_t)0, ~(uint64_t)0};
+    CHECK(gel_buffer_open(&other, 2, 2, 4) == 0);
+    CHECK(gel_buffer_run(&other, NULL, NULL, 0, other_store, STORE) == 0 && other.regs[GEL_PHASE] == 0);
+    CHECK(gel_buffer_run(&other, NULL, NULL, 0, NULL, 0) == 2);
+    /* As many as there are calls and places for answers. */
+    CHECK(gel_run(other.regs, other.tail, other.head, other.cells, other.firsts, other.stored, other.tails, other.heads,
+                  other.owing, calls, SLOTS, answers, 1, other_store, STORE) == 0);
+    CHECK(other.regs[GEL_PHASE] == 1 && answers[0] == 0 && answers[1] == ~(uint64_t)0);
+    CHECK(gel_run(other.regs, other.tail, other.head, other.cells, other.firsts, other.stored, other.tails, other.heads,
+                  other.owing, calls + 1, 1, answers, 3, other_store, STORE) == 0);
+    CHECK(other.regs[GEL_PHASE] == 0 && answers[1] == ~(uint64_t)0);
+    CHECK(same(gel_answer_of(answers[0]), table[1]));
+    /* A refused slot among others; and a store that is too short for all. */
+    answers[0] = gel_ask(256);
+    CHECK(gel_buffer_run(&other, answers, words, 1, other_store, STORE) == 0 && refused(gel_answer_of(words[0]), 6));
+    CHECK(gel_buffer_run(&other, calls, words, 2, NULL, 0) == 2);
+    CHECK(refused(gel_answer_of(words[0]), 2) && refused(gel_answer_of(words[1]), 2));
+}
+
+static void idle_slots(void) {
+    gel_stretch s;
+    /* Behind four of the nine slots one idle slot, as a slot and by the count. */
+    CHECK(gel_buffer_open(&other, 2, 2, 4) == 0);
+    CHECK(gel_buffer_run(&other, calls, words, 4, other_store, STORE) == 0);
+    by_slot = other;
+    memcpy(slot_store, other_store, STORE);
+    CHECK(same(gel_buffer_slot(&by_slot, gel_nothing(), slot_store, STORE), nothing));
+    s = gel_buffer_idle(&other, 1, other_store, STORE);
+    CHECK(s.passed == 1 && same(s.last, nothing) && alike(&by_slot, &other));
+    CHECK(gel_buffer_open(&other, 2, 2, 4) == 0);
+    CHECK(same(gel_buffer_slot(&other, gel_both(0, 'z', 0), other_store, STORE), nothing));
+    /* L = 3 slots later it leaves. */
+    s = gel_buffer_idle(&other, 2, other_store, STORE);
+    CHECK(s.passed == 2 && same(s.last, nothing));
+    s = gel_buffer_idle(&other, 10, other_store, STORE);
+    CHECK(s.passed == 1 && s.last.number == 0 && s.last.delivers == 1 && s.last.value == 'z' && s.last.queue == 0);
+    s = gel_buffer_idle(&other, 1000000000, other_store, STORE);
+    CHECK(s.passed == 1000000000 && same(s.last, nothing) && other.regs[GEL_PHASE] == 0);
+    s = gel_buffer_idle(&other, 0, other_store, STORE);
+    CHECK(s.passed == 0 && same(s.last, nothing));
+    /* A refusal is the last of them; of 0 slots none is tried. */
+    s = gel_buffer_idle(&other, 5, NULL, 0);
+    CHECK(s.passed == 1 && refused(s.last, 2));
+    s = gel_buffer_idle(&other, 0, NULL, 0);
+    CHECK(s.passed == 0 && same(s.last, nothing));
+}
+
+static void call_and_answer_words(void) {
+    gel_answer a = gel_answer_of((uint64_t)0xab | (uint64_t)1022 << 8 | (uint64_t)1 << 18 | (uint64_t)513 << 19 |
+                                 (uint64_t)1 << 29 | (uint64_t)7 << 30 | (uint64_t)1 << 40 | (uint64_t)8190 << 41 |
+                                 (uint64_t)2 << 54 | (uint64_t)200 << 56);
+    CHECK(a.number == 200 && a.dropped == 2 && a.delivers == 1 && a.writes == 1 && a.reads == 1);
+    CHECK(a.value == 0xab && a.queue == 1022 && a.written == 513 && a.read == 7 && a.slots_left == 8190);
+    CHECK(same(gel_answer_of(0), nothing));
+    CHECK(gel_nothing() == 0);
+    CHECK(gel_arrive(65535, 255) == 0x1ffffff && gel_ask(65535) == (uint64_t)0x1ffff << 25);
+    CHECK(gel_both(1, 2, 3) == (gel_arrive(1, 2) | gel_ask(3)));
+    /* What this version does not look at: bits 42 to 63, and a queue or a value where there is no arrival or request. */
+    CHECK(gel_buffer_open(&other, 2, 2, 4) == 0);
+    CHECK(same(gel_buffer_slot(&other, ~gel_arrive(0, 0) & ~gel_ask(0), other_store, STORE), nothing));
+    CHECK(other.regs[GEL_PHASE] == 1 && other.regs[GEL_TAIL_FILL] == 0);
+}
+
+/* ---- Sizes ----------------------------------------------------------------------------------------------------- */
+
+static int memories_are(gel_memories m, size_t lookahead, size_t tail, size_t head, size_t store) {
+    return m.lookahead == lookahead && m.tail == tail && m.head == head && m.store == store;
+}
+
+static void sizes(void) {
+    CHECK(memories_are(gel_memory_sizes(2, 2, 4), 3, 4, 5, STORE));
+    CHECK(memories_are(gel_memory_sizes(16, 125, 8), 1985, 2109, 3969, 16000));
+    CHECK(memories_are(gel_memory_sizes(0, 2, 4), 0, 0, 0, 0));
+    CHECK(memories_are(gel_memory_sizes(SIZE_MAX, 2, 4), 0, 0, 0, 0));
+    CHECK(gel_block_size(10, 9) == 125 && gel_block_size(1, 9) == 13 && gel_block_size(100, 0) == 125);
+    CHECK(gel_block_size(0, 9) == 0 && gel_block_size(100, 9) == 0 && gel_block_size(10, 16) == 0);
+    CHECK(gel_block_size(SIZE_MAX, SIZE_MAX) == 0);
+}
+
+/* ---- Scripts --------------------------------------------------------------------------------------------------- */
+
+/* The nine slots again: sizes, arrivals, both, requests, three idle slots by their count, the end. */
+static const gel_command commands[] = {{16, 2, 2, 4},   {1, 0, 'a', 0}, {1, 0, 'b', 0}, {3, 1, 'x', 0}, {3, 1, 'y', 1},
+                                       {2, 0, 0, 0},    {2, 1, 0, 0},   {4, 2, 0, 0},   {0, 0, 0, 0},   {5, 0, 0, 0}};
+static const char lines[] = "D 5 0 97\nD 6 1 120\nD 7 0 98\nD 8 1 121\nE 9\n";
+
+static gel_command command(uint16_t code, uint16_t one, uint16_t two, uint16_t three) {
+    gel_command c;
+    c.code = code;
+    c.one = one;
+    c.two = two;
+    c.three = three;
+    return c;
+}
+
+static int read_as(gel_reading r, gel_command c, size_t length) {
+    return r.number == 0 && r.length == length && r.command.code == c.code && r.command.one == c.one &&
+           r.command.two == c.two && r.command.three == c.three;
+}
+
+static int read_refused(gel_reading r, uint8_t number) {
+    return r.number == number && r.length == 0 && r.command.code == 0 && r.command.one == 0 && r.command.two == 0 &&
+           r.command.three == 0;
+}
+
+/* It is written, and reads back as itself. */
+static int reads_back(gel_command c, size_t length) {
+    uint8_t bytes[4];
+    gel_writing w = gel_script_write(c, bytes, sizeof bytes);
+    return w.number == 0 && w.length == length && read_as(gel_script_read(bytes, w.length, c.code == 16), c, length);
+}
+
+/* It is refused, and the output is as it came. */
+static int write_refused(gel_command c, size_t output_bytes, uint8_t number) {
+    uint8_t bytes[4] = {201, 202, 203, 204};
+    gel_writing w = gel_script_write(c, bytes, output_bytes);
+    return w.number == number && w.length == 0 && bytes[0] == 201 && bytes[1] == 202 && bytes[2] == 203 &&
+           bytes[3] == 204;
+}
+
+static void commands_one_by_one(void) {
+    const uint8_t sizes_cut[] = {16, 2, 2}, idle[] = {0}, unknown[] = {6};
+    gel_writing w;
+    CHECK(reads_back(command(16, 255, 255, 255), 4) && reads_back(command(3, 255, 255, 255), 4));
+    CHECK(reads_back(command(4, 65535, 0, 0), 3) && reads_back(command(5, 0, 0, 0), 1));
+    CHECK(write_refused(command(6, 0, 0, 0), 4, 12) && write_refused(command(16 + 256, 2, 2, 4), 4, 12));
+    CHECK(write_refused(command(1, 256, 0, 0), 4, 16) && write_refused(command(3, 0, 0, 256), 4, 16));
+    CHECK(write_refused(command(0, 1, 0, 0), 4, 16) && write_refused(command(4, 1, 1, 0), 4, 16));
+    CHECK(write_refused(command(16, 2, 2, 4), 3, 16));
+    w = gel_script_write(command(5, 0, 0, 0), NULL, 0);
+    CHECK(w.number == 16 && w.length == 0);
+    CHECK(read_refused(gel_script_read(NULL, 0, 1), 15) && read_refused(gel_script_read(unknown, 1, 0), 12));
+    CHECK(read_refused(gel_script_read(sizes_cut, 3, 1), 13) && read_refused(gel_script_read(sizes_cut, 3, 0), 14));
+    CHECK(read_refused(gel_script_read(idle, 1, 1), 14));
+    CHECK(read_as(gel_script_read(idle, 1, 0), command(0, 0, 0, 0), 1));
+}
+
+static int fault_is(gel_fault f, uint8_t number, size_t offset) { return f.number == number && f.offset == offset; }
+
+static void whole_scripts(void) {
+    static uint8_t script[64], output[1024];
+    uint8_t store[STORE];
+    size_t bytes = 0, printed;
+    for (size_t i = 0; i < sizeof commands / sizeof commands[0]; i++) {
+        gel_writing w = gel_script_write(commands[i], script + bytes, sizeof script - bytes);
+        CHECK(w.number == 0 && read_as(gel_script_read(script + bytes, w.length, i == 0), commands[i], w.length));
+        bytes += w.length;
+    }
+    CHECK(fault_is(gel_script_judge(script, bytes), 0, 0));
+    CHECK(fault_is(gel_script_judge(script, bytes - 1), 15, bytes - 1));
+    CHECK(fault_is(gel_script_judge(script + 4, bytes - 4), 14, 0));
+    CHECK(fault_is(gel_script_judge(NULL, 0), 15, 0));
+
+    CHECK(gel_script_output(0) == 11 && gel_script_output(65536) == 655371 && gel_script_output(SIZE_MAX) == 655371);
+    memset(store, 0, STORE);
+    memset(output, '?', sizeof output);
+    CHECK(gel_script_run(script, bytes, store, STORE, output, gel_script_output(bytes) - 1) == 0);
+    CHECK(gel_script_run(script, bytes, store, STORE, NULL, 0) == 0);
+    CHECK(output[0] == '?' && store[0] == 0);
+    printed = gel_script_run(script, bytes, store, STORE, output, gel_script_output(bytes));
+    CHECK(printed == strlen(lines) && memcmp(output, lines, printed) == 0 && output[printed] == '?');
+    CHECK(store[0] == 'a' && store[1] == 'b');
+    printed = gel_script_run(script, bytes, NULL, 0, output, sizeof output);
+    CHECK(printed == 10 && memcmp(output, "R 0 2\nE 0\n", printed) == 0);
+    printed = gel_script_run(NULL, 0, NULL, 0, output, 11);
+    CHECK(printed == 7 && memcmp(output, "S 15 0\n", printed) == 0);
+}
+
+int main(void) {
+    CHECK(gel_version() == GEL_VERSION);
+    nine_slots();
+    sizes_refused();
+    slots_refused();
+    counts_mended();
+    runs();
+    idle_slots();
+    call_and_answer_words();
+    sizes();
+    commands_one_by_one();
+    whole_scripts();
+    printf("%d passed, %d failed\n", passed, failed);
+    return failed == 0 ? 0 : 1;
+}

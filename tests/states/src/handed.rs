@@ -1,0 +1,164 @@
+//! States to hand in, each with a call and a store, from a seeded generator: states that keep the rules and lean
+//! towards an answer, states with one fault, states with a few numbers changed, and any numbers at all.
+
+use gelwynnar::{reg, REGS};
+use second::random::Random;
+use second::random_state::{random_state, Amount, Lean};
+use second::raw::RawState;
+use second::sizes::Design;
+
+use crate::faults::Fault;
+use crate::image::Image;
+use crate::picks::{is_large, some_call, some_sizes, some_store};
+use crate::words::Call;
+
+pub struct Handed {
+    pub image: Image,
+    pub call: Call,
+    pub fault: Option<Fault>,
+}
+
+/// So many states are tried for one that gives the answer that it leans towards.
+const TRIES: usize = 100;
+
+pub fn handed(random: &mut Random) -> Handed {
+    match random.below(100) {
+        0..=64 => {
+            let goal = random.pick(&[0, 0, 0, 0, 0, 0, 2, 4, 5, 6, 7, 8, 9, 10]);
+            leaning(random, goal)
+        }
+        65..=84 => {
+            let fault = random.pick(&Fault::all());
+            faulty(random, fault)
+        }
+        85..=92 => changed(random),
+        _ => any_numbers(random),
+    }
+}
+
+/// A state that keeps the rules. The answer only guides what is picked: a state that misses it is as good a state.
+fn leaning(random: &mut Random, goal: u8) -> Handed {
+    let outside = match goal {
+        0 => 0,
+        4 | 6 => 40,
+        _ => 10,
+    };
+    let mut tries = 0;
+    loop {
+        tries += 1;
+        let sizes = some_sizes(random);
+        let lean = lean(random, goal);
+        let mut state = random_state(random, sizes, Design::Full.cells(sizes), lean);
+        if random.percent(30) {
+            to_ring_ends(random, &mut state);
+        }
+        let call = some_call(random, sizes, outside);
+        // Troubles beside the goal stay in, so that the order of refusals shows.
+        let short = goal == 2 || goal != 0 && random.percent(5);
+        let store = some_store(random, sizes, short);
+        if is_large(sizes) || tries == TRIES || number(&state, call, store.clone()) == goal {
+            let image = Image { store, ..Image::of_state(random, &state) };
+            return Handed { image, call, fault: None };
+        }
+    }
+}
+
+fn lean(random: &mut Random, goal: u8) -> Lean {
+    let mut lean = Lean::towards(random, goal);
+    // Few cells and no block to write, so that idle slots go on for a while.
+    if goal == 0 && random.percent(30) {
+        lean.tail = Amount::Empty;
+        lean.owed = random.below(8);
+        lean.held = random.below(4);
+    }
+    lean
+}
+
+/// Rings that begin at their first or last place, which is where they come round.
+fn to_ring_ends(random: &mut Random, state: &mut RawState) {
+    for ring in &mut state.rings {
+        ring.first = random.pick(&[0, state.sizes.k - 1]);
+    }
+}
+
+fn number(state: &RawState, (arrival, request): Call, mut store: Vec<u8>) -> u8 {
+    state.clone().slot(Design::Full.cells(state.sizes), arrival, request, &mut store).number
+}
+
+fn faulty(random: &mut Random, fault: Fault) -> Handed {
+    let mut image = fault.image(random);
+    let sizes = image.places.sizes();
+    // A store that is too short as well must still answer 3.
+    let short = random.percent(30);
+    image.store = some_store(random, sizes, short);
+    Handed { image, call: some_call(random, sizes, 10), fault: Some(fault) }
+}
+
+/// A state that kept the rules, with some numbers changed: it may still keep them, or break more than one.
+fn changed(random: &mut Random) -> Handed {
+    let mut handed = leaning(random, 0);
+    for _ in 0..random.between(1, 3) {
+        change(random, &mut handed.image);
+    }
+    // The sizes may be others now.
+    handed.image.store = some_store(random, handed.image.places.sizes(), false);
+    handed
+}
+
+/// Queues up to 31, kinds up to 3 and small numbers, of which many are still good.
+fn change(random: &mut Random, image: &mut Image) {
+    let places = &mut image.places;
+    let queue = random.below(places.firsts.len().min(places.regs[reg::QUEUES]));
+    let depth = places.regs[reg::DEPTH].min(255);
+    match random.below(7) {
+        0 => {
+            let register = &mut places.regs[random.below(REGS)];
+            *register = register.wrapping_add(random.pick(&[1, usize::MAX]));
+        }
+        1 => places.regs[random.between(reg::PHASE, reg::HEAD_MARK)] = random.below(40),
+        2 => {
+            *random_place(random, &mut places.tail, places.regs[reg::TAIL_FILL]) =
+                random.word() as u16 & 0x1FFF
+        }
+        3 => {
+            *random_place(random, &mut places.head, places.regs[reg::HEAD_FILL]) =
+                random.word() as u16 & 0x1FFF
+        }
+        4 => {
+            let cells = Design::Full.cells(places.sizes());
+            *random_place(random, &mut places.cells, cells) = random.word() as u32 & 0x3_1FFF;
+        }
+        5 => places.firsts[queue] = random.below(depth + 1) as u8,
+        _ => places.stored[queue] = random.below(depth + 2) as u8,
+    }
+}
+
+/// One of the first so many places.
+fn random_place<'a, T>(random: &mut Random, places: &'a mut [T], first: usize) -> &'a mut T {
+    let place = random.below(first.min(places.len()));
+    &mut places[place]
+}
+
+/// Any numbers in every array; in some states also in the registers, in others these may be good.
+fn any_numbers(random: &mut Random) -> Handed {
+    let mut image = Image::junk(random);
+    if random.percent(70) {
+        let sizes = some_sizes(random);
+        let tail_mark = random.below(sizes.tail_size() + 2);
+        let head_mark = random.below(sizes.head_size() + 2);
+        image.places.regs = [
+            sizes.q,
+            sizes.b,
+            sizes.k,
+            random.below(sizes.b),
+            random.below(tail_mark + 1),
+            random.below(head_mark + 1),
+            tail_mark,
+            head_mark,
+        ];
+    }
+    let sizes = image.places.sizes();
+    let short = random.percent(25);
+    image.store = some_store(random, sizes, short);
+    Handed { image, call: some_call(random, sizes, 10), fault: None }
+}

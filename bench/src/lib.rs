@@ -9,6 +9,8 @@ pub mod rough;
 pub mod traffic;
 pub mod words;
 
+use gelwynnar::Answer;
+
 /// The sizes of the table.
 pub const TABLE_SIZES: [Sizes; 3] = [Sizes::new(4, 3, 20), Sizes::new(16, 8, 8), Sizes::new(63, 33, 4)];
 
@@ -64,17 +66,32 @@ pub type Run = fn(Sizes, &[u64], &mut Lent) -> bool;
 pub type RunThenIdle = fn(Sizes, &[u64], &mut Lent, usize) -> bool;
 
 /// What a run writes to: an answer word for each call, the slow store, and the high marks of the state that it
-/// leaves, the tail's first.
+/// leaves, the tail's first. A way whose answers are structs keeps them as they came, so that what the comparison makes
+/// of them is not in its time.
 #[derive(Clone, PartialEq)]
 pub struct Lent {
     pub answers: Vec<u64>,
+    pub told: Vec<Answer>,
     pub store: Vec<u8>,
     pub marks: [usize; 2],
 }
 
+/// No answer has this number.
+const UNTOLD: u8 = u8::MAX;
+
 impl Lent {
     /// No answer and no mark looks like these, so that one left out is seen.
     pub fn new(calls: usize, store: Vec<u8>) -> Lent {
-        Lent { answers: vec![u64::MAX; calls], store, marks: [usize::MAX; 2] }
+        let untold = Answer { number: UNTOLD, ..Answer::default() };
+        Lent { answers: vec![u64::MAX; calls], told: vec![untold; calls], store, marks: [usize::MAX; 2] }
+    }
+
+    /// The answers that were told as structs, as words.
+    pub fn take_told(&mut self) {
+        for (answer, told) in self.answers.iter_mut().zip(self.told.drain(..)) {
+            if told.number != UNTOLD {
+                *answer = told.word();
+            }
+        }
     }
 }

@@ -1,7 +1,7 @@
 //! The boundary to the proved library: a buffer in lent arrays, and ways to run a whole list of slots from a fresh
 //! state, all safe to call.
 //!
-//! Each way writes an answer word for each call, and leaves the high marks. The words are those of `words`.
+//! Each way writes an answer for each call, a run as words, which are those of `words`, and leaves the high marks.
 
 use gelwynnar::{reg, Answer, Blocks, Cells, Counts, Head, Regs, Stretch, Tail};
 
@@ -130,9 +130,9 @@ impl Buffer {
         calls: &[u64],
         lent: &mut Lent,
     ) {
-        assert_eq!(calls.len(), lent.answers.len());
-        for (&call, answer) in calls.iter().zip(&mut lent.answers) {
-            *answer = slot(self, call, &mut lent.store).word();
+        assert_eq!(calls.len(), lent.told.len());
+        for (&call, told) in calls.iter().zip(&mut lent.told) {
+            *told = slot(self, call, &mut lent.store);
         }
         lent.marks = self.marks();
     }

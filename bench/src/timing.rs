@@ -28,6 +28,7 @@ pub fn best_times<Way: Copy, const N: usize>(
             let accepted = run(way, &mut said);
             *best = best.min(start.elapsed().as_nanos() as f64);
             assert!(accepted, "{name}: the list is refused");
+            said.take_told();
             match &first {
                 None => first = Some((name, said)),
                 Some(first) => check(first, (name, &said)),

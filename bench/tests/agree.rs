@@ -59,7 +59,7 @@ fn many_sizes() -> impl Iterator<Item = (u64, Sizes)> {
 /// The library's functions in turn on one buffer, a few slots with each.
 fn mixed(sizes: Sizes, calls: &[u64], lent: &mut Lent) -> bool {
     let Some(mut buffer) = Buffer::open(sizes) else { return false };
-    let Lent { answers, store, marks } = lent;
+    let Lent { answers, store, marks, .. } = lent;
     let for_steps = store.len() >= sizes.store();
     for (turn, (calls, answers)) in calls.chunks(5).zip(answers.chunks_mut(5)).enumerate() {
         if turn % 3 == 0 {
@@ -87,6 +87,7 @@ fn random_store(length: usize) -> Vec<u8> {
 fn outcome(run: Run, sizes: Sizes, calls: &[u64], store: &[u8]) -> Lent {
     let mut lent = Lent::new(calls.len(), store.to_vec());
     assert!(run(sizes, calls, &mut lent), "{sizes:?} is refused");
+    lent.take_told();
     lent
 }
 

@@ -1,11 +1,60 @@
 // Many slots in one call, of any state and any store: a list of calls, or idle slots by the count. The state's arrays
 // are copied once, lent to crates/run_checked, which goes from slot to slot in place, and put back.
+ghost use Rattle.layout.specs.Lent.{given, found, left};
+ghost use Rattle.layout.specs.Views.{Long, stateIn};
+ghost use Rattle.run_checked.specs.Says.{RunCheckedSays};
 ghost use Rattle.buffer_runs.specs.Says.{RunSays, IdleSays};
 ghost use Rattle.buffer_runs.specs.Demand.{MixedCallsMeet};
 use buffer::State;
+use layout::CellArray;
 use layout::Chosen;
+use layout::CountArray;
 use layout::Delivery;
+use layout::HeadArray;
 use layout::QUEUE_PLACES;
+use layout::REGS;
+use layout::Regs;
+use layout::RingArray;
+use layout::TailArray;
+
+// A list of slots on lent arrays, with the registers by value.
+fn run_from(
+    tail: &mut TailArray,
+    head: &mut HeadArray,
+    cells: &mut CellArray,
+    firsts: &mut RingArray,
+    stored: &mut RingArray,
+    tails: &mut CountArray,
+    heads: &mut CountArray,
+    owing: &mut CountArray,
+    regs: Regs,
+    calls: &[u64],
+    answers: &mut [u64],
+    store: &mut [u8],
+) -> Regs
+    requires { ⌜ Long (given tail head cells firsts stored) ⌝ }
+    ensures { λ r. ⌜ RunCheckedSays (stateIn regs (found tail head cells firsts stored))
+        (now (calls .entry)) (now (answers .entry)) (now (store .entry))
+        (stateIn r (left tail head cells firsts stored)) (now (answers .exit)) (now (store .exit)) ⌝ }
+{
+    let mut lent = [0; REGS];
+    layout::put_regs(&mut lent, regs);
+    run_checked::run(
+        tail,
+        head,
+        cells,
+        firsts,
+        stored,
+        tails,
+        heads,
+        owing,
+        &mut lent,
+        calls,
+        answers,
+        store,
+    );
+    layout::regs_in(&lent)
+}
 
 // A list of slots: as many calls as there are places for their answers.
 pub fn run(mut state: State, calls: &[u64], answers: &mut [u64], store: &mut [u8]) -> State
@@ -21,7 +70,7 @@ pub fn run(mut state: State, calls: &[u64], answers: &mut [u64], store: &mut [u8
     let mut tails = [0; QUEUE_PLACES];
     let mut heads = [0; QUEUE_PLACES];
     let mut owing = [0; QUEUE_PLACES];
-    let ran = run_checked::run(
+    let next = run_from(
         &mut tail,
         &mut head,
         &mut cells,
@@ -35,7 +84,6 @@ pub fn run(mut state: State, calls: &[u64], answers: &mut [u64], store: &mut [u8
         answers,
         store,
     );
-    let next = ran.regs;
     state.regs = next;
     state.tail = tail;
     state.head = head;

@@ -19,13 +19,12 @@ use Rattle.slot_plan.specs.declared.Plan.{Plan}
 use Rattle.slot_in_place.specs.Says.{Ready, answerIn}
 use Rattle.slot_checked.specs.Says.{JudgeStateSays, CountsSay, judgedNumber, LeaveSays, PlanCheckedSays}
 use Rattle.slot_checked.proofs.Judging.{judged-state}
-use Rattle.slot_checked.proofs.Clearing.{ready-counted, leaves-refused, leaves-ready}
+use Rattle.slot_checked.proofs.Clearing.{ready-counted, leaves-refused, leaves-ready, judged-lent}
 use Rattle.run_words.specs.Words.{nearByte, nearQueue}
 use Rattle.run_words.proofs.Nearest.{read-slot}
-use Rattle.run_in_place.specs.declared.Called.{Called}
-use Rattle.run_in_place.specs.Says.{advancedIn, OneSlotSays}
-use Rattle.run_checked.specs.Says.{RunCheckedSays, IdleCheckedSays}
-use Rattle.run_checked.specs.declared.Ran.{Ran}
+use Rattle.run_in_place.specs.declared.Answered.{Answered}
+use Rattle.run_in_place.specs.Says.{advancedTo, OneSlotSays}
+use Rattle.run_checked.specs.Says.{IdleCheckedSays}
 use Rattle.idle_in_place.specs.declared.Passed.{Passed}
 use Rattle.gelwynnar.specs.declared.slots.Answer.{Answer}
 use Rattle.gelwynnar.specs.declared.slots.DeliveryFields.{DeliveryFields}
@@ -62,46 +61,26 @@ pub told-fields : {number : ℕ} (delivered : Option Byte) (written read : Optio
     }) (answerTold number delivered written read)
 told-fields delivered written read d w r = rw (d .0, d .1, d .2, w .0, w .1, r .0, r .1)
 
--- `regs` is what an array held, `regs′` what it holds then.
+-- A run of one call, told: `regs` is what the array of registers held, `regs′` what it holds then.
+pub stepped : {regs : Regs} (regs′ : Regs) (m m′ : Arrays) {store store′ : List ℕ} {call : Call} (r : Answered)
+    {counts′ : ByQueue} {a : Answer} → OneSlotSays regs m store call (advancedTo regs′ r) m′ counts′ store′
+    → a ≡ answerTold (r .number) (deliveryIn (r .delivery)) (chosenIn (r .written)) (chosenIn (r .read))
+    → SlotLentSays regs m store call a regs′ m′ store′ × Ready regs′ m′ counts′ store′
+stepped {regs} regs′ m m′ {store} {store′} {call} r {counts′} {a} one tells = (
+  record {
+    answer-is = tells ∙ ap told answer;
+    state-is = ap (λ (b : model.Answer). b .state) answer;
+    store-is = ap (λ (b : model.Answer). b .store) answer;
+    as-given = λ f. one .as-given (λ z. f (ap (λ (b : Answer). b .number) tells ∙ z));
+  },
+  one .slot-is .ready,
+)
+  where
+    answer : answerIn (advancedTo regs′ r) m′ store′ ≡ slot paper (stateIn regs m) store call
+    answer = one .slot-is .answer-is
+
+-- A stretch of idle slots, told: its registers by value are what an array held, and are put there again.
 module _ {regs regs′ : Regs} (m m′ : Arrays) {store store′ : List ℕ} {before : Regs} (read-in : before ≡ regs) where
-  pub stepped : {call : Call} {r : Called} {counts′ : ByQueue} {a : Answer}
-      → OneSlotSays before m store call r m′ counts′ store′ → regs′ ≡ r .regs
-      → a ≡ answerTold (r .number) (deliveryIn (r .delivery)) (chosenIn (r .written)) (chosenIn (r .read))
-      → SlotLentSays regs m store call a regs′ m′ store′ × Ready regs′ m′ counts′ store′
-  stepped {call} {r} {counts′} {a} says put tells = (
-    record {
-      answer-is = tells ∙ ap told answer;
-      state-is = ap (λ (n : Regs). stateIn n m′) put ∙ ap (λ (b : model.Answer). b .state) answer;
-      store-is = ap (λ (b : model.Answer). b .store) answer;
-      as-given = λ f.
-          let same = one .as-given (λ z. f (ap (λ (b : Answer). b .number) tells ∙ z)) in (put ∙ same .0, same .1);
-    },
-    subst (λ (n : Regs). Ready n m′ counts′ store′) (sym put) (one .slot-is .ready),
-  )
-    where
-      one : OneSlotSays regs m store call r m′ counts′ store′
-      one = subst (λ (n : Regs). OneSlotSays n m store call r m′ counts′ store′) read-in says
-
-      answer : answerIn (advancedIn r) m′ store′ ≡ slot paper (stateIn regs m) store call
-      answer = one .slot-is .answer-is
-
-  pub ran : {calls answers answers′ : List ℕ} {counts counts′ : ByQueue} {r : Ran}
-      → RunCheckedSays (stateIn before m) calls answers store (stateIn (r .regs) m′) answers′ store′
-      × (r .number ≡ judgedNumber before m store)
-      × LeaveSays before m counts store (r .regs) m′ counts′ store′
-      → regs′ ≡ r .regs
-      → RunCheckedSays (stateIn regs m) calls answers store (stateIn regs′ m′) answers′ store′
-      × (r .number ≡ judgedNumber regs m store)
-      × LeaveSays regs m counts store regs′ m′ counts′ store′
-  ran {calls} {answers} {answers′} {counts} {counts′} {r} says put = subst (λ (n : Regs). Says regs n) (sym put)
-      (subst (λ (n : Regs). Says n (r .regs)) read-in says)
-    where
-      Says : Regs → Regs → Type 0
-      Says n n′ =
-          RunCheckedSays (stateIn n m) calls answers store (stateIn n′ m′) answers′ store′
-          × (r .number ≡ judgedNumber n m store)
-          × LeaveSays n m counts store n′ m′ counts′ store′
-
   pub idled : {n : ℕ} {counts counts′ : ByQueue} {r : Passed} {a : Answer}
       → IdleCheckedSays (stateIn before m) store n r (stateIn (r .regs) m′) store′
       × LeaveSays before m counts store (r .regs) m′ counts′ store′
@@ -137,16 +116,13 @@ module _ {regs regs′ : Regs} (m m′ : Arrays) {store store′ : List ℕ} {be
 
 -- A slot of a state of which 3 and 2 are judged: refused, or a step.
 module _ {regs : Regs} (m : Arrays) (store : List ℕ) {before : Regs} (read-in : before ≡ regs) {n : ℕ}
-    (number-is : n ≡ judgedNumber before m store) {counts counts′ : ByQueue}
-    (counted : CountsSay (stateIn before m) (stateIn before m) counts counts′) where
-  number-here : n ≡ judgedNumber regs m store
-  number-here = subst (λ (k : Regs). n ≡ judgedNumber k m store) read-in number-is
+    {counts counts′ : ByQueue} (says : (n ≡ judgedNumber before m store)
+    × CountsSay (stateIn before m) (stateIn before m) counts counts′) where
+  here : (n ≡ judgedNumber regs m store) × CountsSay (stateIn regs m) (stateIn regs m) counts counts′
+  here = judged-lent read-in m store says
 
   judged : JudgeStateSays (stateIn regs m) (length store) n
-  judged = judged-state (stateIn regs m) (length store) number-here
-
-  counts-here : CountsSay (stateIn regs m) (stateIn regs m) counts counts′
-  counts-here = subst (λ (k : Regs). CountsSay (stateIn k m) (stateIn k m) counts counts′) read-in counted
+  judged = judged-state (stateIn regs m) (length store) (here .0)
 
   pub slot-refused : {call : Call} {a : Answer} → (n ≡ 0 → ⊥) → a ≡ answerTold n none none none
       → SlotLentSays regs m store call a regs m store × LeaveSays regs m counts store regs m counts′ store
@@ -157,20 +133,20 @@ module _ {regs : Regs} (m : Arrays) (store : List ℕ) {before : Regs} (read-in 
       store-is = ap (λ (b : model.Answer). b .store) (sym refused);
       as-given = λ _. (refl, refl);
     },
-    leaves-refused regs m store number-here counts-here f,
+    leaves-refused regs m store (here .0) (here .1) f,
   )
     where
       refused : slot paper (stateIn regs m) store call ≡ refuse n (stateIn regs m) store
       refused = judged .refused f store call refl
 
   pub step-ready : n ≡ 0 → Long m → Ready regs m counts′ store
-  step-ready z long = ready-counted regs m store judged z counts-here long
+  step-ready z long = ready-counted regs m store judged z (here .1) long
 
   pub slot-stepped : n ≡ 0 → {call : Call} {a : Answer} {regs′ : Regs} {m′ : Arrays} {counts″ : ByQueue}
       {store′ : List ℕ}
       → SlotLentSays regs m store call a regs′ m′ store′ × Ready regs′ m′ counts″ store′
       → SlotLentSays regs m store call a regs′ m′ store′ × LeaveSays regs m counts store regs′ m′ counts″ store′
-  slot-stepped z says = (says .0, leaves-ready regs m store number-here z (says .1))
+  slot-stepped z says = (says .0, leaves-ready regs m store (here .0) z (says .1))
 
 -- The number of a slot, by what is decided of it.
 pub number-judged : {regs : Regs} (m : Arrays) {bytes : ℕ} {before : Regs} → before ≡ regs

@@ -11,11 +11,11 @@ use Rattle.model.proofs.basics.Tests.{true-not-false}
 use Rattle.model.proofs.one_slot.Rules.{keeps-holds, keeps-fresh}
 use Rattle.layout.specs.Counts.{ByQueue, Tallies}
 use Rattle.layout.specs.declared.Regs.{Regs}
-use Rattle.layout.specs.Views.{Arrays, stateIn}
+use Rattle.layout.specs.Views.{Arrays, regsIn, stateIn}
 use Rattle.layout.specs.Fresh.{freshRegs, freshArrays, freshCounts}
 use Rattle.layout.proofs.Fresh.{fresh-in, fresh-tallies}
 use Rattle.slot_in_place.specs.Says.{Ready}
-use Rattle.gelwynnar.specs.Slots.{regsIn, OpenSays}
+use Rattle.gelwynnar.specs.Slots.{OpenSays}
 
 module _ (q b k : ℕ) (ok : accepts paperLimits (sizes q b k) ≡ true) where
   fresh-ready : (store : List ℕ) → storeBytes (sizes q b k) ≤ length store

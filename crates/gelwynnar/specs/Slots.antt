@@ -4,7 +4,7 @@ use mathlib.Core.Bool.{true, false}
 use mathlib.Core.List.{List}
 use mathlib.Core.Option.{Option, some, none}
 use Prim.Native.Nat.{ℕ, _-_, _≤_}
-use lib.ListN.{length, getD}
+use lib.ListN.{length}
 use Rattle.model.specs.Basics.{All}
 use Rattle.model.specs.Sizes.{sizes, paperLimits, accepts, paper, storeBytes}
 use Rattle.model.specs.State.{Byte, State, fresh, makingNumber}
@@ -15,24 +15,11 @@ use Rattle.model.specs.Lists.{run, lastState, lastStore}
 use Rattle.model.specs.Idle.{QuietStep, stretchLength, lastAnswer}
 use Rattle.layout.specs.Counts.{ByQueue}
 use Rattle.layout.specs.declared.Regs.{Regs}
-use Rattle.layout.specs.Views.{Arrays, stateIn}
+use Rattle.layout.specs.Views.{Arrays, regsIn, stateIn}
 use Rattle.layout.specs.Fresh.{freshRegs, freshArrays, freshCounts}
 use Rattle.slot_in_place.specs.Says.{Ready}
 use Rattle.gelwynnar.specs.declared.slots.Answer.{Answer}
 use Rattle.gelwynnar.specs.declared.slots.Stretched.{Stretched}
-
--- The registers as an array of eight, in their own order.
-abbrev pub regsIn : List ℕ → Regs
-regsIn l = record {
-  queues = getD l 0 0;
-  block = getD l 1 0;
-  depth = getD l 2 0;
-  phase = getD l 3 0;
-  «tail_fill» = getD l 4 0;
-  «head_fill» = getD l 5 0;
-  «tail_mark» = getD l 6 0;
-  «head_mark» = getD l 7 0;
-}
 
 -- An answer as numbers: 1 and its queue where there is one, else 0 and 0.
 abbrev pub flag : {A : Type 0} → Option A → ℕ

@@ -11,12 +11,12 @@ ghost use Rattle.model.specs.Slot.{slot};
 ghost use Rattle.layout.specs.Calls.{chosenIn, deliveryIn};
 ghost use Rattle.layout.specs.Lent.{given, found, left, countsGiven, countsFound, countsLeft};
 ghost use Rattle.layout.specs.Lengths.{headPlaces, cellPlaces};
-ghost use Rattle.layout.specs.Views.{Long, arrays, stateIn};
+ghost use Rattle.layout.specs.Views.{Long, arrays, regsIn, stateIn};
 ghost use Rattle.slot_in_place.specs.Says.{Ready};
 ghost use Rattle.slot_checked.specs.Says.{judgedNumber, LeaveSays};
 ghost use Rattle.run_words.specs.Words.{callOf};
 ghost use Rattle.run_checked.specs.Says.{RunCheckedSays};
-ghost use Rattle.gelwynnar.specs.Slots.{regsIn, flag, queueTold, deliveryTold, valueTold, answerTold};
+ghost use Rattle.gelwynnar.specs.Slots.{flag, queueTold, deliveryTold, valueTold, answerTold};
 ghost use Rattle.gelwynnar.specs.Slots.{OpenSays, SlotLentSays, IdleLentSays};
 use layout::CELL_PLACES;
 use layout::CellArray;
@@ -27,12 +27,10 @@ use layout::EMPTY;
 use layout::HEAD_PLACES;
 use layout::HeadArray;
 use layout::QUEUE_PLACES;
-use layout::Regs;
+use layout::RegArray;
 use layout::RingArray;
 use layout::TAIL_PLACES;
 use layout::TailArray;
-
-pub type RegArray = [usize; 8];
 
 // What a slot answers. Where `number` is not 0 all else is 0. `dropped` and `slots_left` are for requests to come.
 #[repr(C)]
@@ -54,37 +52,6 @@ pub struct Answer {
 pub struct Stretched {
     pub passed: usize,
     pub last: Answer,
-}
-
-// The registers that an array holds.
-fn regs_in(regs: &RegArray) -> Regs
-    ensures { λ r. ⌜ r ≡ regsIn (now (regs .entry)) ⌝ }
-{
-    Regs {
-        queues: regs[0],
-        block: regs[1],
-        depth: regs[2],
-        phase: regs[3],
-        tail_fill: regs[4],
-        head_fill: regs[5],
-        tail_mark: regs[6],
-        head_mark: regs[7],
-    }
-}
-
-fn put_regs(regs: &mut RegArray, next: Regs)
-    ensures { λ _. ⌜ regsIn (now (regs .exit)) ≡ next ⌝ }
-{
-    *regs = [
-        next.queues,
-        next.block,
-        next.depth,
-        next.phase,
-        next.tail_fill,
-        next.head_fill,
-        next.tail_mark,
-        next.head_mark,
-    ];
 }
 
 // A delivery as its three fields.
@@ -209,25 +176,22 @@ pub extern "C" fn gel_step(
         × Ready (regsIn (now (regs .exit))) (left tail head cells firsts stored)
         (countsLeft tails heads owing) (now (store .exit)) ⌝ }
 {
-    let before = regs_in(regs);
     let calls = [call];
     let mut answers = [0u64; 1];
     let called = run_in_place::run_calls(
         tail,
+        tails,
         head,
+        heads,
         cells,
+        owing,
         firsts,
         stored,
-        tails,
-        heads,
-        owing,
-        before,
+        regs,
         &calls,
         &mut answers,
         store,
     );
-    let next = called.regs;
-    put_regs(regs, next);
     let number = called.number;
     let delivery = called.delivery;
     let written = called.written;
@@ -259,7 +223,7 @@ pub extern "C" fn gel_slot(
         (regsIn (now (regs .exit))) (left tail head cells firsts stored)
         (countsLeft tails heads owing) (now (store .exit)) ⌝ }
 {
-    let before = regs_in(regs);
+    let before = layout::regs_in(regs);
     let number = slot_checked::judge_state(
         tail,
         head,
@@ -323,8 +287,7 @@ pub extern "C" fn gel_run(
         (regsIn (now (regs .exit))) (left tail head cells firsts stored)
         (countsLeft tails heads owing) (now (store .exit)) ⌝ }
 {
-    let before = regs_in(regs);
-    let ran = run_checked::run(
+    run_checked::run(
         tail,
         head,
         cells,
@@ -333,14 +296,11 @@ pub extern "C" fn gel_run(
         tails,
         heads,
         owing,
-        before,
+        regs,
         calls,
         answers,
         store,
-    );
-    let next = ran.regs;
-    put_regs(regs, next);
-    ran.number
+    )
 }
 
 // One stretch of at most so many idle slots, of any state and any store.
@@ -367,7 +327,7 @@ pub extern "C" fn gel_idle(
         (regsIn (now (regs .exit))) (left tail head cells firsts stored)
         (countsLeft tails heads owing) (now (store .exit)) ⌝ }
 {
-    let before = regs_in(regs);
+    let before = layout::regs_in(regs);
     let stretch = run_checked::idle(
         tail,
         head,
@@ -382,7 +342,7 @@ pub extern "C" fn gel_idle(
         store,
     );
     let next = stretch.regs;
-    put_regs(regs, next);
+    layout::put_regs(regs, next);
     let passed = stretch.passed;
     let number = stretch.number;
     let delivery = stretch.delivery;
@@ -412,7 +372,7 @@ pub extern "C" fn gel_judge<'a>(
         → r ≡ slot paper (stateIn (regsIn (now (regs .entry))) (found tail head cells firsts stored)) store
         (callOf call) .number) ⌝ }
 {
-    let now = regs_in(regs);
+    let now = layout::regs_in(regs);
     let arrival = run_words::arrival_in(call);
     let request = run_words::request_in(call);
     let plan = slot_checked::plan(
@@ -442,6 +402,6 @@ pub extern "C" fn gel_margin<'a>(
         → r ≡ margin (stateIn (regsIn (now (regs .entry)))
         (arrays tail (now (head .entry)) (now (cells .entry)) firsts stored)) queue) ⌝ }
 {
-    let now = regs_in(regs);
+    let now = layout::regs_in(regs);
     buffer_margin::margin(head, cells, now.head_fill, now.queues, now.block, queue)
 }

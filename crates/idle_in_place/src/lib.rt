@@ -18,6 +18,7 @@ use layout::Chosen;
 use layout::CountArray;
 use layout::Delivery;
 use layout::HeadArray;
+use layout::REGS;
 use layout::Regs;
 use layout::RingArray;
 use layout::TailArray;
@@ -116,23 +117,25 @@ pub fn pass(
         };
     }
     let passed = count + 1;
+    let mut lent = [0; REGS];
+    layout::put_regs(&mut lent, turned);
     let calls = [0u64; 1];
     let mut answers = [0u64; 1];
     let slot = run_in_place::run_calls(
         tail,
+        tails,
         head,
+        heads,
         cells,
+        owing,
         firsts,
         stored,
-        tails,
-        heads,
-        owing,
-        turned,
+        &mut lent,
         &calls,
         &mut answers,
         store,
     );
-    let next = slot.regs;
+    let next = layout::regs_in(&lent);
     let delivery = slot.delivery;
     let written = slot.written;
     let read = slot.read;

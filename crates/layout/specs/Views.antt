@@ -4,7 +4,7 @@
 use mathlib.Core.Path.{_≡_}
 use mathlib.Core.List.{List}
 use Prim.Native.Nat.{ℕ}
-use lib.ListN.{length}
+use lib.ListN.{length, getD}
 use Rattle.model.specs.Basics.{tabulate}
 use Rattle.model.specs.Sizes.{Sizes, sizes, lookahead}
 use Rattle.model.specs.State.{Ring, ring, State}
@@ -30,6 +30,19 @@ pub record Long (m : Arrays) : Type 0 where
   pub cells-long : length (m .cells) ≡ cellPlaces
   pub firsts-long : length (m .firsts) ≡ queuePlaces
   pub stored-long : length (m .stored) ≡ queuePlaces
+
+-- The registers as an array of eight, in their own order.
+abbrev pub regsIn : List ℕ → Regs
+regsIn l = record {
+  queues = getD l 0 0;
+  block = getD l 1 0;
+  depth = getD l 2 0;
+  phase = getD l 3 0;
+  «tail_fill» = getD l 4 0;
+  «head_fill» = getD l 5 0;
+  «tail_mark» = getD l 6 0;
+  «head_mark» = getD l 7 0;
+}
 
 abbrev pub sizesIn : Regs → Sizes
 sizesIn regs = sizes (regs .queues) (regs .block) (regs .depth)

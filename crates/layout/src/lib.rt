@@ -1,6 +1,8 @@
 // How a state lies in registers and arrays, and what a slot is asked and answers: values, types and lengths that the
 // crates above share.
+ghost use mathlib.Core.Path.{_≡_};
 ghost use Rattle.layout.specs.Example.{ExampleReads};
+ghost use Rattle.layout.specs.Views.{regsIn};
 
 // The byte that arrives, as queue and value, or none.
 pub enum Arrival {
@@ -66,6 +68,42 @@ pub struct Regs {
     pub head_fill: usize,
     pub tail_mark: usize,
     pub head_mark: usize,
+}
+
+// The registers where a caller lends them, in the same order.
+pub const REGS: usize = 8;
+
+pub type RegArray = [usize; REGS];
+
+// The registers that an array holds.
+pub fn regs_in(regs: &RegArray) -> Regs
+    ensures { λ r. ⌜ r ≡ regsIn (now (regs .entry)) ⌝ }
+{
+    Regs {
+        queues: regs[0],
+        block: regs[1],
+        depth: regs[2],
+        phase: regs[3],
+        tail_fill: regs[4],
+        head_fill: regs[5],
+        tail_mark: regs[6],
+        head_mark: regs[7],
+    }
+}
+
+pub fn put_regs(regs: &mut RegArray, next: Regs)
+    ensures { λ _. ⌜ regsIn (now (regs .exit)) ≡ next ⌝ }
+{
+    *regs = [
+        next.queues,
+        next.block,
+        next.depth,
+        next.phase,
+        next.tail_fill,
+        next.head_fill,
+        next.tail_mark,
+        next.head_mark,
+    ];
 }
 
 // A small state, its call and its answer, read out of registers, arrays and values.

@@ -5,7 +5,7 @@ ghost use mathlib.Core.List.{_++_};
 ghost use Prim.Native.Nat.{_≤_};
 ghost use lib.ListN.{length, drop, replicate};
 ghost use Rattle.layout.specs.Lent.{given, found, left, countsFound, countsLeft};
-ghost use Rattle.layout.specs.Views.{Long, stateIn};
+ghost use Rattle.layout.specs.Views.{Long, regsIn, stateIn};
 ghost use Rattle.slot_checked.specs.Says.{judgedNumber, LeaveSays};
 ghost use Rattle.run_checked.specs.Says.{RunCheckedSays, IdleCheckedSays};
 use idle_in_place::Passed;
@@ -14,6 +14,7 @@ use layout::Chosen;
 use layout::CountArray;
 use layout::Delivery;
 use layout::HeadArray;
+use layout::RegArray;
 use layout::Regs;
 use layout::RingArray;
 use layout::TailArray;
@@ -30,13 +31,8 @@ fn fill(answers: &mut [u64], n: usize, word: u64)
     }
 }
 
-// Where a run leaves the registers, and 0, or the number that each of its slots answers.
-pub struct Ran {
-    pub regs: Regs,
-    pub number: u8,
-}
-
-// Many slots, of any state and any store: as many calls as there are places for their answers.
+// Many slots, of any state and any store: as many calls as there are places for their answers. 0, or the number that
+// each of them answers.
 pub fn run(
     tail: &mut TailArray,
     head: &mut HeadArray,
@@ -46,20 +42,24 @@ pub fn run(
     tails: &mut CountArray,
     heads: &mut CountArray,
     owing: &mut CountArray,
-    regs: Regs,
+    regs: &mut RegArray,
     calls: &[u64],
     answers: &mut [u64],
     store: &mut [u8],
-) -> Ran
+) -> u8
     requires { ⌜ Long (given tail head cells firsts stored) ⌝ }
-    ensures { λ r. ⌜ RunCheckedSays (stateIn regs (found tail head cells firsts stored))
+    ensures { λ r. ⌜ RunCheckedSays (stateIn (regsIn (now (regs .entry))) (found tail head cells firsts stored))
         (now (calls .entry)) (now (answers .entry)) (now (store .entry))
-        (stateIn (r .regs) (left tail head cells firsts stored)) (now (answers .exit)) (now (store .exit))
-        × (r .number ≡ judgedNumber regs (found tail head cells firsts stored) (now (store .entry)))
-        × LeaveSays regs (found tail head cells firsts stored) (countsFound tails heads owing) (now (store .entry))
-        (r .regs) (left tail head cells firsts stored) (countsLeft tails heads owing) (now (store .exit)) ⌝ }
+        (stateIn (regsIn (now (regs .exit))) (left tail head cells firsts stored))
+        (now (answers .exit)) (now (store .exit))
+        × (r ≡ judgedNumber (regsIn (now (regs .entry))) (found tail head cells firsts stored) (now (store .entry)))
+        × LeaveSays (regsIn (now (regs .entry))) (found tail head cells firsts stored)
+        (countsFound tails heads owing) (now (store .entry))
+        (regsIn (now (regs .exit))) (left tail head cells firsts stored)
+        (countsLeft tails heads owing) (now (store .exit)) ⌝ }
 {
     let n = minmax::smaller(calls.len(), answers.len());
+    let before = layout::regs_in(regs);
     let number = slot_checked::judge_state(
         tail,
         head,
@@ -69,7 +69,7 @@ pub fn run(
         tails,
         heads,
         owing,
-        regs,
+        before,
         store.len(),
     );
     if number != 0 {
@@ -80,30 +80,23 @@ pub fn run(
             Chosen::Nothing,
         );
         fill(answers, n, word);
-        return Ran {
-            regs: regs,
-            number: number,
-        };
+        return number;
     }
-    let ran = run_in_place::run_calls(
+    run_in_place::run_calls(
         tail,
+        tails,
         head,
+        heads,
         cells,
+        owing,
         firsts,
         stored,
-        tails,
-        heads,
-        owing,
         regs,
         &calls[..n],
         answers,
         store,
     );
-    let next = ran.regs;
-    Ran {
-        regs: next,
-        number: 0,
-    }
+    0
 }
 
 // One stretch of at most n idle slots, of any state and any store. Where the state breaks the rules or the store is too

@@ -23,8 +23,10 @@ use Rattle.layout.specs.Views.{Arrays, stateIn}
 use Rattle.slot_in_place.specs.Says.{Ready, answerIn, AdvanceSays, AsGiven}
 use Rattle.run_words.specs.Words.{callOf, answerWord, nearByte, nearQueue}
 use Rattle.run_words.proofs.Nearest.{read-slot}
+use Rattle.slot_in_place.specs.declared.Advanced.{Advanced}
+use Rattle.run_in_place.specs.declared.Answered.{Answered}
 use Rattle.run_in_place.specs.declared.Called.{Called}
-use Rattle.run_in_place.specs.Says.{wordOf, advancedIn, CalledSays, OneSlotSays}
+use Rattle.run_in_place.specs.Says.{wordOf, advancedIn, advancedTo, CalledSays, OneSlotSays}
 use Rattle.run_in_place.specs.Says.{OneCallSays, RunInPlaceSays}
 
 -- The run before call i.
@@ -35,9 +37,9 @@ pub record RunTo (i : ℕ) (x : State) (store : List ℕ) (calls : List Call) (b
   pub state-is : state ≡ lastState paper x store (take i calls)
   pub store-is : store′ ≡ lastStore paper x store (take i calls)
 
-pub run-starts : (x : State) (store : List ℕ) (calls : List Call) (before : List ℕ)
-    → RunTo 0 x store calls before before x store
-run-starts x store calls before = record { within = omega arith; answers-are = refl; state-is = refl; store-is = refl }
+pub run-starts : {x : State} (store : List ℕ) (calls : List Call) (before : List ℕ) {state : State} → state ≡ x
+    → RunTo 0 x store calls before before state store
+run-starts store calls before same = record { within = omega arith; answers-are = refl; state-is = same; store-is = refl }
 
 -- An element stored right behind a front.
 set-behind : (front back : List ℕ) (v : ℕ) → 1 ≤ length back
@@ -48,15 +50,15 @@ set-behind (f ∷ front) back v h = ap (λ (l : List ℕ). f ∷ l) (set-behind 
 
 module _ {i : ℕ} {x : State} {store : List ℕ} {calls : List Call} {before after : List ℕ} {state : State}
     {store′ : List ℕ} (w : RunTo i x store calls before after state store′) where
-  pub run-ends : length calls ≤ i → RunInPlaceSays x store calls before after state store′
-  run-ends last =
+  pub run-ends : length calls ≤ i → {end : State} → end ≡ state → RunInPlaceSays x store calls before after end store′
+  run-ends last same =
       let all : i ≡ length calls = omega (arith, w .within) in
       let whole : take i calls ≡ calls = ap (λ (n : ℕ). take n calls) all ∙ take-length calls in
       record {
         answers-are = w .answers-are
             ∙ ap (λ (l : List Call). map wordOf (run paper x store l) ++ drop i before) whole
             ∙ ap (λ (n : ℕ). map wordOf (run paper x store calls) ++ drop n before) all;
-        state-is = w .state-is ∙ ap (lastState paper x store) whole;
+        state-is = same ∙ w .state-is ∙ ap (lastState paper x store) whole;
         store-is = w .store-is ∙ ap (lastStore paper x store) whole;
       }
 
@@ -146,28 +148,28 @@ called {x} {store} call arrival request {m} {counts} {store′} r s ea er ew = r
     answer = s .answer-is ∙ read-slot x store call ea er
 
 -- The first slot of a run, as long as no other has come: before it all is as it was given, behind it is the slot.
-pub record FirstTo (i : ℕ) (regs : Regs) (m : Arrays) (store : List ℕ) (first-call : Call) (r : Called) (m′ : Arrays)
+pub record FirstTo (i : ℕ) (regs : Regs) (m : Arrays) (store : List ℕ) (first-call : Call) (r : Advanced) (m′ : Arrays)
     (counts : ByQueue) (store′ : List ℕ) : Type 0 where
   pub none-yet : i ≡ 0 → (r .regs ≡ regs) × (m′ ≡ m) × (store′ ≡ store)
   pub first : i ≡ 1 → OneSlotSays regs m store first-call r m′ counts store′
 
-pub no-first : {regs : Regs} {m : Arrays} {store : List ℕ} {call : Call} {r : Called} {counts : ByQueue}
+pub no-first : {regs : Regs} {m : Arrays} {store : List ℕ} {call : Call} {r : Advanced} {counts : ByQueue}
     → r .regs ≡ regs → FirstTo 0 regs m store call r m counts store
 no-first same = record { none-yet = λ e. (same, refl, refl); first = λ e. absurd (omega (arith, e)) }
 
-module _ (calls : List Call) (d : Call) {i : ℕ} {regs : Regs} {m : Arrays} {store : List ℕ} {r : Called} {m′ : Arrays}
+module _ (calls : List Call) (d : Call) {i : ℕ} {regs : Regs} {m : Arrays} {store : List ℕ} {r : Advanced} {m′ : Arrays}
     {counts : ByQueue} {store′ : List ℕ} (f : FirstTo i regs m store (getD calls 0 d) r m′ counts store′) where
   pub first-turn : {call : Call} → getD calls i d ≡ call → {r′ : Called} {m″ : Arrays} {counts′ : ByQueue}
       {store″ : List ℕ} → CalledSays (stateIn (r .regs) m′) store′ call r′ m″ counts′ store″
       → AsGiven (r .regs) m′ (advancedIn r′) m″
-      → FirstTo (i + 1) regs m store (getD calls 0 d) r′ m″ counts′ store″
+      → FirstTo (i + 1) regs m store (getD calls 0 d) (advancedIn r′) m″ counts′ store″
   first-turn {call} is-call {r′} {m″} {counts′} {store″} says given = record {
     none-yet = λ e. absurd (omega (arith, e));
     first = λ e. at-zero (omega (arith, e));
   }
     where
       Slot : Regs → Arrays → List ℕ → Call → Type 0
-      Slot n k t c = OneSlotSays n k t c r′ m″ counts′ store″
+      Slot n k t c = OneSlotSays n k t c (advancedIn r′) m″ counts′ store″
 
       at-zero : i ≡ 0 → Slot regs m store (getD calls 0 d)
       at-zero z =
@@ -182,14 +184,30 @@ module _ (calls : List Call) (d : Call) {i : ℕ} {regs : Regs} {m : Arrays} {st
       subst (λ (c : Call). OneSlotSays regs m store c r m′ counts store′) (ap (λ (l : List Call). getD l 0 d) e)
       (f .first (all ∙ ap length e))
 
--- A run of one word is the slot of the call that the word stands for.
-pub ran-call : {regs : Regs} {m : Arrays} {store : List ℕ} (word : ℕ) {call : Call} {r : Called} {m′ : Arrays}
-    {counts : ByQueue} {store′ : List ℕ} → callOf word ≡ call
-    → OneCallSays regs m store (callOf word ∷ []) r m′ counts store′
-    → AdvanceSays (stateIn regs m) store call (advancedIn r) m′ counts store′
-ran-call {regs} {m} {store} word {r = r} {m′} {counts} {store′} is-call one =
-    subst (λ (c : Call). AdvanceSays (stateIn regs m) store c (advancedIn r) m′ counts store′) is-call
-    (one (callOf word) refl .slot-is)
+-- Registers that lie in an array are ready as they are by value.
+pub lent-ready : {lent regs : Regs} → lent ≡ regs → {m : Arrays} {counts : ByQueue} {store : List ℕ}
+    → Ready regs m counts store → Ready lent m counts store
+lent-ready put {m} {counts} {store} ready = subst (λ (n : Regs). Ready n m counts store) (sym put) ready
+
+-- A run of one call leaves its registers in their array.
+pub call-put : {regs : Regs} {m : Arrays} {store : List ℕ} {calls : List Call} {last lent : Regs} → lent ≡ last
+    → (r : Answered) {m′ : Arrays} {counts : ByQueue} {store′ : List ℕ}
+    → OneCallSays regs m store calls (advancedTo last r) m′ counts store′
+    → OneCallSays regs m store calls (advancedTo lent r) m′ counts store′
+call-put {regs} {m} {store} {calls} put r {m′} {counts} {store′} one =
+    subst (λ (n : Regs). OneCallSays regs m store calls (advancedTo n r) m′ counts store′) (sym put) one
+
+-- A caller that holds the registers by value lends an array of them, and reads them there behind the run. A run of one
+-- word is then the slot of the call that the word stands for.
+pub ran-call : {lent regs lent′ regs′ : Regs} → lent ≡ regs → regs′ ≡ lent′ → {m : Arrays} {store : List ℕ} (word : ℕ)
+    {call : Call} (r : Answered) {m′ : Arrays} {counts : ByQueue} {store′ : List ℕ} → callOf word ≡ call
+    → OneCallSays lent m store (callOf word ∷ []) (advancedTo lent′ r) m′ counts store′
+    → AdvanceSays (stateIn regs m) store call (advancedTo regs′ r) m′ counts store′
+ran-call {lent} {regs} {lent′} put read {m} {store} word {call} r {m′} {counts} {store′} is-call one =
+    subst (λ (n : Regs). AdvanceSays (stateIn regs m) store call (advancedTo n r) m′ counts store′) (sym read)
+    (subst (λ (n : Regs). AdvanceSays (stateIn n m) store call (advancedTo lent′ r) m′ counts store′) put
+    (subst (λ (c : Call). AdvanceSays (stateIn lent m) store c (advancedTo lent′ r) m′ counts store′) is-call
+    (one (callOf word) refl .slot-is)))
 
 -- A slot keeps the store's length.
 pub store-kept : {regs : Regs} {m : Arrays} {counts : ByQueue} {store : List ℕ} {call : Call} {r : Called} {m′ : Arrays}

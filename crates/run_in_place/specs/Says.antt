@@ -13,6 +13,7 @@ use Rattle.layout.specs.Views.{Arrays, stateIn}
 use Rattle.slot_in_place.specs.declared.Advanced.{Advanced}
 use Rattle.slot_in_place.specs.Says.{AdvanceSays, AsGiven}
 use Rattle.run_words.specs.Words.{answerWord}
+use Rattle.run_in_place.specs.declared.Answered.{Answered}
 use Rattle.run_in_place.specs.declared.Called.{Called}
 
 -- A slot's answer as one number.
@@ -37,13 +38,23 @@ pub record CalledSays (x : State) (store : List ℕ) (call : Call) (r : Called) 
       ≡ answerWord (slot paper x store call .number) (slot paper x store call .delivered)
       (slot paper x store call .written) (slot paper x store call .read)
 
--- A run of one call is the slot in place: on a refusal the registers and the arrays are as they came.
-pub record OneSlotSays (regs : Regs) (m : Arrays) (store : List ℕ) (call : Call) (r : Called) (m′ : Arrays)
-    (counts : ByQueue) (store′ : List ℕ) : Type 0 where
-  pub slot-is : AdvanceSays (stateIn regs m) store call (advancedIn r) m′ counts store′
-  pub as-given : AsGiven regs m (advancedIn r) m′
+-- What a run hands back, with the registers that it leaves.
+abbrev pub advancedTo : Regs → Answered → Advanced
+advancedTo regs r = record {
+  regs = regs;
+  number = r .number;
+  delivery = r .delivery;
+  written = r .written;
+  read = r .read;
+}
 
-abbrev pub OneCallSays : Regs → Arrays → List ℕ → List Call → Called → Arrays → ByQueue → List ℕ → Type 0
+-- A run of one call is the slot in place: on a refusal the registers and the arrays are as they came.
+pub record OneSlotSays (regs : Regs) (m : Arrays) (store : List ℕ) (call : Call) (r : Advanced) (m′ : Arrays)
+    (counts : ByQueue) (store′ : List ℕ) : Type 0 where
+  pub slot-is : AdvanceSays (stateIn regs m) store call r m′ counts store′
+  pub as-given : AsGiven regs m r m′
+
+abbrev pub OneCallSays : Regs → Arrays → List ℕ → List Call → Advanced → Arrays → ByQueue → List ℕ → Type 0
 OneCallSays regs m store calls r m′ counts store′ =
     (call : Call) → calls ≡ call ∷ [] → OneSlotSays regs m store call r m′ counts store′
 

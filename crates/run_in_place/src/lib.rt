@@ -4,15 +4,16 @@ ghost use mathlib.Core.List.{map};
 ghost use Prim.Native.Nat.{_≤_};
 ghost use lib.ListN.{length};
 ghost use Rattle.layout.specs.Lent.{given, found, left, countsGiven, countsLeft};
-ghost use Rattle.layout.specs.Views.{stateIn};
+ghost use Rattle.layout.specs.Views.{regsIn, stateIn};
 ghost use Rattle.slot_in_place.specs.Says.{Ready, AsGiven};
 ghost use Rattle.run_words.specs.Words.{callOf};
-ghost use Rattle.run_in_place.specs.Says.{advancedIn, CalledSays, RunInPlaceSays, OneCallSays};
+ghost use Rattle.run_in_place.specs.Says.{advancedIn, advancedTo, CalledSays, RunInPlaceSays, OneCallSays};
 use layout::CellArray;
 use layout::Chosen;
 use layout::CountArray;
 use layout::Delivery;
 use layout::HeadArray;
+use layout::RegArray;
 use layout::Regs;
 use layout::RingArray;
 use layout::TailArray;
@@ -82,38 +83,50 @@ pub fn answer_call(
     }
 }
 
+// What the last slot of a run answered.
+pub struct Answered {
+    pub number: u8,
+    pub delivery: Delivery,
+    pub written: Chosen,
+    pub read: Chosen,
+}
+
 // The slots of all calls, in order, and what the last of them answered. It is the only caller of the slot in place, so
-// that the compiler puts the slot into its loop; whoever wants one slot runs one call.
+// that the compiler puts the slot into its loop; whoever wants one slot runs one call. For that caller's sake the
+// registers are lent, to be read once and put back once, and each array of counts stands beside what it counts: a record
+// of registers, and three pointers that come over the stack and go on over it, are both copied by pairs, and a pair that
+// was just written one by one must wait (docs/DECISIONS.md, L8).
 pub fn run_calls(
     tail: &mut TailArray,
+    tails: &mut CountArray,
     head: &mut HeadArray,
+    heads: &mut CountArray,
     cells: &mut CellArray,
+    owing: &mut CountArray,
     firsts: &mut RingArray,
     stored: &mut RingArray,
-    tails: &mut CountArray,
-    heads: &mut CountArray,
-    owing: &mut CountArray,
-    regs: Regs,
+    regs: &mut RegArray,
     calls: &[u64],
     answers: &mut [u64],
     store: &mut [u8],
-) -> Called
-    requires { ⌜ Ready regs (given tail head cells firsts stored)
+) -> Answered
+    requires { ⌜ Ready (regsIn (now regs)) (given tail head cells firsts stored)
         (countsGiven tails heads owing) (now store)
         × (length (now calls) ≤ length (now answers)) ⌝ }
     ensures { λ r. ⌜ RunInPlaceSays
-        (stateIn regs (found tail head cells firsts stored))
+        (stateIn (regsIn (now (regs .entry))) (found tail head cells firsts stored))
         (now (store .entry)) (map callOf (now (calls .entry))) (now (answers .entry)) (now (answers .exit))
-        (stateIn (r .regs) (left tail head cells firsts stored))
+        (stateIn (regsIn (now (regs .exit))) (left tail head cells firsts stored))
         (now (store .exit))
-        × Ready (r .regs) (left tail head cells firsts stored)
+        × Ready (regsIn (now (regs .exit))) (left tail head cells firsts stored)
         (countsLeft tails heads owing) (now (store .exit))
-        × OneCallSays regs (found tail head cells firsts stored) (now (store .entry))
-        (map callOf (now (calls .entry))) r
+        × OneCallSays (regsIn (now (regs .entry))) (found tail head cells firsts stored) (now (store .entry))
+        (map callOf (now (calls .entry))) (advancedTo (regsIn (now (regs .exit))) r)
         (left tail head cells firsts stored) (countsLeft tails heads owing) (now (store .exit)) ⌝ }
 {
+    let before = layout::regs_in(regs);
     let mut last = Called {
-        regs: regs,
+        regs: before,
         number: 0,
         delivery: Delivery::NoDelivery,
         written: Chosen::Nothing,
@@ -139,5 +152,16 @@ pub fn run_calls(
         answers[i] = last.word;
         i += 1;
     }
-    last
+    let end = last.regs;
+    layout::put_regs(regs, end);
+    let number = last.number;
+    let delivery = last.delivery;
+    let written = last.written;
+    let read = last.read;
+    Answered {
+        number: number,
+        delivery: delivery,
+        written: written,
+        read: read,
+    }
 }

@@ -14,6 +14,7 @@ use layout::CellArray;
 use layout::CountArray;
 use layout::Delivery;
 use layout::HeadArray;
+use layout::REGS;
 use layout::Regs;
 use layout::Request;
 use layout::RingArray;
@@ -95,23 +96,25 @@ fn run_slot(
         (countsLeft tails heads owing) (now (store .exit)) (now (output .exit)) ⌝ }
 {
     let regs = start.regs;
+    let mut lent = [0; REGS];
+    layout::put_regs(&mut lent, regs);
     let calls = [run_words::call_word(arrival, request)];
     let mut answers = [0u64; 1];
     let slot = run_in_place::run_calls(
         tail,
+        tails,
         head,
+        heads,
         cells,
+        owing,
         firsts,
         stored,
-        tails,
-        heads,
-        owing,
-        regs,
+        &mut lent,
         &calls,
         &mut answers,
         store,
     );
-    let next = slot.regs;
+    let next = layout::regs_in(&lent);
     let delivery = slot.delivery;
     let put = put_answer(output, start.place, start.slots, slot.number, delivery);
     Progress {

@@ -1,5 +1,5 @@
 -- A state of which 3 and 2 are ruled out is ready for slots in place, with the counts that judging took.
-use mathlib.Core.Path.{_≡_, refl, ap, sym, _∙_}
+use mathlib.Core.Path.{_≡_, refl, ap, sym, _∙_, subst}
 use mathlib.Core.Bool.{Bool, true, false}
 use mathlib.Core.List.{List}
 use Prim.Native.Nat.{ℕ}
@@ -102,3 +102,12 @@ leaves-ready regs m store number-is z ready = record {
   ready = λ _. ready;
   counts-are = counts-ready (judged-state (stateIn regs m) (length store) number-is) z ready;
 }
+
+-- What is judged of registers that were read from an array is judged of what the array holds.
+pub judged-lent : {before regs : Regs} → before ≡ regs → (m : Arrays) (store : List ℕ) {n : ℕ} {counts counts′ : ByQueue}
+    → (n ≡ judgedNumber before m store) × CountsSay (stateIn before m) (stateIn before m) counts counts′
+    → (n ≡ judgedNumber regs m store) × CountsSay (stateIn regs m) (stateIn regs m) counts counts′
+judged-lent read m store {n} {counts} {counts′} says =
+    subst
+    (λ (k : Regs). (n ≡ judgedNumber k m store) × CountsSay (stateIn k m) (stateIn k m) counts counts′)
+    read says

@@ -53,7 +53,7 @@ loop-holds c =
       omega (arith, most, min-le-left n (length (a .answers .now))),
       omega (arith, most, min-le-right n (length (a .answers .now))),
       omega arith,
-      run-starts _ _ _ _,
+      run-starts _ _ _ refl,
     )
 
 -- The way back through one turn of the loop: from behind the answer's word to behind the slot, to the test of the loop,

@@ -3,9 +3,9 @@
 use mathlib.Core.Path.{sym, _∙_}
 use lib.ListN.{length}
 use borrow.Author.Needs.{needs}
-use Rattle.layout.specs.Views.{Arrays, arrays, stateIn}
+use Rattle.layout.specs.Views.{Arrays, arrays, regsIn, stateIn}
 use Rattle.slot_checked.proofs.Judging.{judged-state}
-use Rattle.slot_checked.proofs.Clearing.{ready-counted, leaves-refused, leaves-ready}
+use Rattle.slot_checked.proofs.Clearing.{ready-counted, leaves-refused, leaves-ready, judged-lent}
 use Rattle.run_checked.proofs.Runs.{part-long, part-fits, ran-refused, ran-in-place}
 use Rattle.run_checked.proofs.run.Statement.{statement}
 use Rattle.run_checked.proofs.run.Tie as tie
@@ -16,20 +16,27 @@ memory s =
     arrays (s .args .tail .now) (s .args .head .now) (s .args .cells .now) (s .args .firsts .now) (s .args .stored .now)
 
 -- The way back through the code.
-abbrev counted : tie.After-judge-state → tie.After-smaller
-counted c = c .before .before .before .before .before .before .before .before .before
+abbrev registers : tie.After-judge-state → tie.After-regs-in
+registers c = c .before .before .before .before .before .before .before .before .before
+
+abbrev counted : tie.After-regs-in → tie.After-smaller
+counted c = c .before .before
 
 abbrev start : tie.After-smaller → tie.Start
 start c = c .before .before .before .before
 
-abbrev not-refused : tie.After-run-calls-arg9 → tie.Else1
-not-refused c = c .before .before .before .before .before .before .before .before .before
+abbrev not-refused : tie.After-run-calls-arg10 → tie.Else1
+not-refused c = c .before .before .before .before .before .before .before .before .before .before
 
 smaller-requires : tie.Need-smaller-requires
 smaller-requires c κs = search needs
 
+regs-in-requires : tie.Need-regs-in-requires
+regs-in-requires c κs = tt
+
 judge-state-requires : tie.Need-judge-state-requires
-judge-state-requires c κs = start (c .before .before .before .before .before .before .before .before) .pre
+judge-state-requires c κs =
+    start (counted (c .before .before .before .before .before .before .before .before)) .pre
 
 answer-word-requires : tie.Need-answer-word-requires
 answer-word-requires c κs = search needs
@@ -46,20 +53,22 @@ returns c =
     let word = filled .before .before in
     let test = word .before in
     let judged = test .before in
-    let s = start (counted judged) in
+    let read = registers judged in
+    let s = start (counted read) in
     let a = s .args in
-    let x = stateIn (a .regs) (memory s) in
-    let says = judged .judge-state .ensures in (
-      ran-refused x (a .calls .now) (a .answers .now) (a .store .now) (counted judged .smaller .ensures)
+    let regs = regsIn (a .regs .now) in
+    let x = stateIn regs (memory s) in
+    let says = judged-lent (read .regs-in .ensures) (memory s) (a .store .now) (judged .judge-state .ensures) in (
+      ran-refused x (a .calls .now) (a .answers .now) (a .store .now) (counted read .smaller .ensures)
           (judged-state x (length (a .store .now)) (says .0)) (test .if1 .taken) (word .answer-word .ensures)
           (filled .fill .ensures),
       says .0,
-      leaves-refused (a .regs) (memory s) (a .store .now) (says .0) (says .1) (test .if1 .taken),
+      leaves-refused regs (memory s) (a .store .now) (says .0) (says .1) (test .if1 .taken),
     )
 
 slice-aggregate-run-calls : tie.Need-slice-aggregate-run-calls
 slice-aggregate-run-calls c =
-    let most = counted (not-refused c .before) in
+    let most = counted (registers (not-refused c .before)) in
     let a = start most .args in
     sym (part-long (a .calls .now) (a .answers .now) _ (most .smaller .ensures))
 
@@ -67,12 +76,14 @@ run-calls-requires : tie.Need-run-calls-requires
 run-calls-requires c κs =
     let test = not-refused (c .before .before) in
     let judged = test .before in
-    let most = counted judged in
+    let read = registers judged in
+    let most = counted read in
     let s = start most in
     let a = s .args in
-    let says = judged .judge-state .ensures in (
-      ready-counted (a .regs) (memory s) (a .store .now)
-          (judged-state (stateIn (a .regs) (memory s)) (length (a .store .now)) (says .0)) (test .if1 .left) (says .1)
+    let regs = regsIn (a .regs .now) in
+    let says = judged-lent (read .regs-in .ensures) (memory s) (a .store .now) (judged .judge-state .ensures) in (
+      ready-counted regs (memory s) (a .store .now)
+          (judged-state (stateIn regs (memory s)) (length (a .store .now)) (says .0)) (test .if1 .left) (says .1)
           (s .pre),
       part-fits (a .calls .now) (a .answers .now) _ (most .smaller .ensures),
     )
@@ -85,18 +96,20 @@ same-length-3 c = search needs
 
 returns-2 : tie.Need-returns-2
 returns-2 c =
-    let ran = c .before .before .before .before .before in
-    let test = not-refused (ran .before .before .before) in
-    let most = counted (test .before) in
+    let run = c .before .before .before .before in
+    let test = not-refused (run .before .before .before) in
+    let judged = test .before in
+    let read = registers judged in
+    let most = counted read in
     let s = start most in
     let a = s .args in
-    let x = stateIn (a .regs) (memory s) in
-    let number = test .before .judge-state .ensures .0 in
-    let says = ran .run-calls .ensures in (
-      ran-in-place x (a .calls .now) (a .answers .now) (a .store .now) (most .smaller .ensures) (says .0)
-          (says .1 .kept),
-      sym (test .if1 .left) ∙ number,
-      leaves-ready (a .regs) (memory s) (a .store .now) number (test .if1 .left) (says .1),
+    let regs = regsIn (a .regs .now) in
+    let says = judged-lent (read .regs-in .ensures) (memory s) (a .store .now) (judged .judge-state .ensures) in
+    let end = run .run-calls .ensures in (
+      ran-in-place (stateIn regs (memory s)) (a .calls .now) (a .answers .now) (a .store .now) (most .smaller .ensures)
+          (end .0) (end .1 .kept),
+      sym (test .if1 .left) ∙ says .0,
+      leaves-ready regs (memory s) (a .store .now) (says .0) (test .if1 .left) (end .1),
     )
 
 pub run-spec : {M : Type 1} → statement M
@@ -104,6 +117,7 @@ run-spec =
     tie.close
     (tie.spec
     smaller-requires
+    regs-in-requires
     judge-state-requires
     answer-word-requires
     fill-requires

@@ -34,7 +34,7 @@ returns c =
     let judged = c .before .before in
     let says = judged .judge-state .ensures in
     let s = start (registers judged) in
-    slot-refused (memory s) (s .args .store .now) (registers judged .regs-in .ensures) (says .0) (says .1)
+    slot-refused (memory s) (s .args .store .now) (registers judged .regs-in .ensures) says
     (c .before .if1 .taken) (c .tell .ensures)
 
 gel-step-requires : tie.Need-gel-step-requires
@@ -43,7 +43,7 @@ gel-step-requires c κs =
     let judged = test .before in
     let says = judged .judge-state .ensures in
     let s = start (registers judged) in
-    step-ready (memory s) (s .args .store .now) (registers judged .regs-in .ensures) (says .0) (says .1)
+    step-ready (memory s) (s .args .store .now) (registers judged .regs-in .ensures) says
     (test .if1 .left) (s .pre)
 
 same-length : tie.Need-same-length
@@ -56,7 +56,7 @@ returns-2 c =
     let judged = test .before in
     let says = judged .judge-state .ensures in
     let s = start (registers judged) in
-    slot-stepped (memory s) (s .args .store .now) (registers judged .regs-in .ensures) (says .0) (says .1)
+    slot-stepped (memory s) (s .args .store .now) (registers judged .regs-in .ensures) says
     (test .if1 .left) (stepped .gel-step .ensures)
 
 pub gel-slot-spec : {M : Type 1} → statement M

@@ -8,7 +8,6 @@ ghost use Rattle.model.specs.State.{keeps};
 ghost use Rattle.layout.specs.Calls.{callIn};
 ghost use Rattle.layout.specs.Views.{sizesIn};
 ghost use Rattle.lookahead.specs.Says.{Shifted};
-ghost use Rattle.buffer.specs.Demand.{CallsMeet};
 ghost use Rattle.buffer.specs.Says.{stateOf, freshState, MakeSays, JudgeSays, SlotSays, StepSays};
 use layout::Arrival;
 use layout::CELL_PLACES;
@@ -215,8 +214,3 @@ impl State {
         self.slot(arrival, request, store)
     }
 }
-
-// Demand 3 over calls of this crate, as a contract, so that it is proved with the code.
-pub fn demand_3_over_calls()
-    ensures { λ _. ⌜ CallsMeet ⌝ }
-{}

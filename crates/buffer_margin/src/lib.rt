@@ -1,17 +1,20 @@
 // "The margin of a queue is its head bytes less its Owed cells", counted in lent arrays, whatever they hold.
 ghost use mathlib.Core.Path.{_≡_};
-ghost use mathlib.Core.List.{[], _∷_};
-ghost use Prim.Native.Nat.{_+_, _-_, _*_, _≤_, min};
+ghost use mathlib.Core.List.{List, [], _∷_};
+ghost use Prim.Native.Nat.{ℕ, _+_, _-_, _*_, _≤_, min};
 ghost use lib.IntN.{pos, _-ℤ_};
 ghost use lib.ListN.{length};
+ghost use Rattle.model.specs.State as model;
 ghost use Rattle.model.specs.State.{countOf, owes, owedOf};
 ghost use Rattle.layout.specs.Lengths.{headPlaces, cellPlaces};
 ghost use Rattle.layout.specs.Entries.{byteOf, bytesIn, cellOf, cellsIn};
+ghost use Rattle.layout.specs.Views.{arrays, regsIn, stateIn};
 use layout::CELL_PLACES;
 use layout::CellArray;
 use layout::HEAD_PLACES;
 use layout::HeadArray;
 use layout::OWED;
+use layout::RegArray;
 
 // How many of the L = Q(b - 1) + 1 cells an array of 2,017 has, whatever the sizes: the product is taken only where it
 // is small.
@@ -102,4 +105,20 @@ pub fn margin<'a>(
     let bytes = count_of(head, minmax::smaller(fill, HEAD_PLACES), queue);
     let owed = count_owed(cells, cells_within(queues, block), queue as u32);
     (bytes as i32) - (owed as i32)
+}
+
+// The same of a state whose registers are lent: the other arrays have no say in it.
+pub fn margin_lent<'a>(
+    regs: &'a RegArray,
+    head: &'a HeadArray,
+    cells: &'a CellArray,
+    queue: u16,
+) -> i32
+    requires { ⌜ (length (now head) ≡ headPlaces) × (length (now cells) ≡ cellPlaces) ⌝ }
+    ensures { λ r. ⌜ ((tail firsts stored : List ℕ)
+        → r ≡ model.margin (stateIn (regsIn (now (regs .entry)))
+        (arrays tail (now (head .entry)) (now (cells .entry)) firsts stored)) queue) ⌝ }
+{
+    let now = layout::regs_in(regs);
+    margin(head, cells, now.head_fill, now.queues, now.block, queue)
 }

@@ -402,6 +402,5 @@ pub extern "C" fn gel_margin<'a>(
         → r ≡ margin (stateIn (regsIn (now (regs .entry)))
         (arrays tail (now (head .entry)) (now (cells .entry)) firsts stored)) queue) ⌝ }
 {
-    let now = layout::regs_in(regs);
-    buffer_margin::margin(head, cells, now.head_fill, now.queues, now.block, queue)
+    buffer_margin::margin_lent(regs, head, cells, queue)
 }

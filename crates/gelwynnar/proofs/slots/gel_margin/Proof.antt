@@ -1,28 +1,18 @@
--- `gel_margin` meets its contract: it counts by the registers that the array holds.
-use mathlib.Core.Path.{ap, _∙_}
+-- `gel_margin` meets its contract: it is the margin by registers that are lent.
+use mathlib.Core.Path.{_∙_}
 use mir.Syntax.{w32}
 use mir.ValLaws.{toZ-ofZ}
-use Rattle.model.specs.State.{margin}
-use Rattle.layout.specs.declared.Regs.{Regs}
-use Rattle.layout.specs.Views.{arrays, stateIn}
 use Rattle.gelwynnar.proofs.slots.gel_margin.Statement.{statement}
 use Rattle.gelwynnar.proofs.slots.gel_margin.Tie as tie
 
-regs-in-requires : tie.Need-regs-in-requires
-regs-in-requires c κs = tt
-
-margin-requires : tie.Need-margin-requires
-margin-requires c κs = c .before .pre
+margin-lent-requires : tie.Need-margin-lent-requires
+margin-lent-requires c κs = c .pre
 
 returns : tie.Need-returns
 returns c =
-    let a = c .before .before .args in
     λ tail firsts stored.
-    toZ-ofZ w32 (c .margin .result) (record { sfits = c .margin .ok })
-    ∙ c .margin .ensures
-    ∙ ap
-    (λ (n : Regs). margin (stateIn n (arrays tail (a .head .now) (a .cells .now) firsts stored)) (a .queue))
-    (c .before .regs-in .ensures)
+    toZ-ofZ w32 (c .margin-lent .result) (record { sfits = c .margin-lent .ok })
+    ∙ c .margin-lent .ensures tail firsts stored
 
 pub gel-margin-spec : {M : Type 1} → statement M
-gel-margin-spec = tie.close (tie.spec regs-in-requires margin-requires returns)
+gel-margin-spec = tie.close (tie.spec margin-lent-requires returns)

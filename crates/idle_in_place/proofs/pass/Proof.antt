@@ -81,5 +81,16 @@ returns-2 c =
     (ran-call (put .put-regs .ensures) (c .regs-in .ensures) 0 answered zero-is-idle (ran .run-calls .ensures .2))
 
 pub pass-spec : {M : Type 1} → statement M
-pass-spec = tie.close (tie.spec pass-quiet-requires returns add-passed put-regs-requires slice-aggregate-run-calls slice-aggregate-run-calls-2 run-calls-requires
-    regs-in-requires same-length returns-2)
+pass-spec =
+    tie.close
+    (tie.spec
+    pass-quiet-requires
+    returns
+    add-passed
+    put-regs-requires
+    slice-aggregate-run-calls
+    slice-aggregate-run-calls-2
+    run-calls-requires
+    regs-in-requires
+    same-length
+    returns-2)

@@ -22,6 +22,9 @@
  *    7  the request's queue has no byte left to ask   14  the first command is not sizes, or sizes come again
  *                                                     15  no command where one is due, or bytes after the end
  *                                                     16  a command does not fit the output
+ * 5 does not come to a slot that asks for the same queue and takes an older byte of it from the tail cache, which makes
+ * room for the arrival. Where the byte that it asks for is in slow store or in the head cache, or would be the arriving
+ * one, 5 comes.
  * 8, 9 and 10 come on states that were handed in, and never from a fresh buffer. */
 #ifndef GELWYNNAR_H
 #define GELWYNNAR_H
@@ -37,8 +40,9 @@
 extern "C" {
 #endif
 
-/* The interface that this page describes. A caller that may meet another library asks gel_version() first. */
-#define GEL_VERSION 1
+/* The interface that this page describes. A caller that may meet another library asks gel_version() first. In 2 some
+ * slots are accepted that 1 refused with 5 (see there); all else is as in 1. */
+#define GEL_VERSION 2
 
 uint32_t gel_version(void);
 

@@ -8,7 +8,7 @@ pub mod script;
 pub mod sizes;
 
 /// The interface that the header describes; `version` tells the one that is linked.
-pub const VERSION: u32 = 1;
+pub const VERSION: u32 = 2;
 
 /// How long the arrays of a buffer are.
 pub const REGS: usize = 8;

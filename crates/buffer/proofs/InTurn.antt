@@ -10,15 +10,16 @@ use lib.ListN.{length, drop}
 use Rattle.model.specs.Sizes.{paper, tailSize, headSize}
 use Rattle.model.specs.State.{Byte, empty, State, tailBytes, blocks}
 use Rattle.model.specs.Slot.{Call, Answer, oldestCell, delivery, afterDelivery, afterArrival, isOwed, afterRequest}
-use Rattle.model.specs.Slot.{queueToWrite, afterWrite, storeWritten, queueToRead, afterRead, afterPhase, joined, asked}
+use Rattle.model.specs.Slot.{tailLeft, earlyArrival, lateArrival, queueToWrite, afterWrite, storeWritten, queueToRead}
+use Rattle.model.specs.Slot.{afterRead, afterPhase, joined, asked}
 use Rattle.model.specs.Slot.{wrote, wroteStore, refilled, refusal, accept, answer, slot}
 use Rattle.model.proofs.basics.Limits.{within-limits}
 use Rattle.model.proofs.basics.Rings.{fewer-blocks}
 use Rattle.model.proofs.one_slot.Rules.{Rules}
 use Rattle.model.proofs.one_slot.StepsKeepRules.{length-tail-left}
 use Rattle.model.proofs.one_slot.Accepted.{Judged, Accepted}
-use Rattle.model.proofs.one_slot.Kept.{length-head-without, length-tail-written, tail-joined, write-taken, read-taken}
-use Rattle.model.proofs.one_slot.Kept.{rules-3, rules-written, still-long}
+use Rattle.model.proofs.one_slot.Kept.{length-head-without, length-tail-written, tail-joined, tail-asked-fits}
+use Rattle.model.proofs.one_slot.Kept.{write-taken, read-taken, rules-3, rules-written, still-long}
 use Rattle.model.proofs.one_slot.Calls.{answer-is}
 use Rattle.model.proofs.delay.IdealSlot.{held-before}
 use Rattle.layout.proofs.States.{same-state}
@@ -46,8 +47,11 @@ module _ (x : State) (store : List ℕ) (call : Call) where
     tail-arrived : length (joined x call .tail) ≤ tailSize (x .sizes)
     tail-arrived = tail-joined paper x store call some-cell j
 
+    tail-left : length (tailLeft (joined x call) (call .request)) ≤ tailSize (x .sizes)
+    tail-left = omega (arith, tail-arrived, length-tail-left (joined x call) (call .request))
+
     tail-asked : length (asked x call .tail) ≤ tailSize (x .sizes)
-    tail-asked = omega (arith, tail-arrived, length-tail-left (joined x call) (call .request))
+    tail-asked = tail-asked-fits paper x store call some-cell j
 
     pub deliver-can : DeliverAsks x
     deliver-can = record {
@@ -68,15 +72,18 @@ module _ (x : State) (store : List ℕ) (call : Call) where
 
     -- The test may be taken on the state as handed in or here: in an accepted slot it gives the same.
     pub ask-can : (owes : Bool) → ((q : ℕ) → call .request ≡ some q → owes ≡ isOwed (joined x call) q)
-        → AskAsks (afterArrival (call .arrival) (opened x)) owes (call .request)
+        → AskAsks (afterArrival (earlyArrival x call) (opened x)) owes (call .request)
     ask-can owes test = record {
       fits = record { sizes-ok = j .kept .sizes-ok; tail-fits = tail-arrived; head-fits = head-fits′ };
       owes-is = λ q e. test q e ∙ sym (same q);
       byte-there = λ q e f. j .byte-there q e (held-before paper x store call some-cell j q (sym (same q) ∙ f));
     }
       where
-        same : (q : ℕ) → isOwed (closed (afterArrival (call .arrival) (opened x))) q ≡ isOwed (joined x call) q
-        same q = ap (λ (y : State). isOwed y q) (opened-closed x (call .arrival))
+        same : (q : ℕ) → isOwed (closed (afterArrival (earlyArrival x call) (opened x))) q ≡ isOwed (joined x call) q
+        same q = ap (λ (y : State). isOwed y q) (opened-closed x (earlyArrival x call))
+
+    pub late-can : CachesFit (afterRequest (call .request) (joined x call))
+    late-can = record { sizes-ok = j .kept .sizes-ok; tail-fits = tail-left; head-fits = head-fits′ }
 
     abbrev w : Option ℕ
     w = queueToWrite (asked x call)
@@ -134,10 +141,12 @@ module _ (x : State) (store : List ℕ) (call : Call) (accepted : Accepted paper
     pub can-arrive : CachesFit x₁
     can-arrive = subst CachesFit (sym delivered) (arrive-can x store call accepted)
 
-    -- 3.
-    module _ {x₂ : State} (arrived : x₂ ≡ afterArrival (call .arrival) x₁) where
-      pub state-2 : x₂ ≡ afterArrival (call .arrival) (opened x)
-      state-2 = arrived ∙ ap (afterArrival (call .arrival)) delivered
+    -- 3. The request, after the arrival that joins before it.
+    module _ {early : Option Byte} (early-is : early ≡ earlyArrival x call) {x₂ : State}
+        (arrived : x₂ ≡ afterArrival early x₁) where
+      pub state-2 : x₂ ≡ afterArrival (earlyArrival x call) (opened x)
+      state-2 =
+          arrived ∙ ap (afterArrival early) delivered ∙ ap (λ (a : Option Byte). afterArrival a (opened x)) early-is
 
       pub can-ask : (owing : Bool) → ((q : ℕ) → call .request ≡ some q → owing ≡ isOwed (joined x call) q)
           → AskAsks x₂ owing (call .request)
@@ -145,64 +154,78 @@ module _ (x : State) (store : List ℕ) (call : Call) (accepted : Accepted paper
           subst (λ (y : State). AskAsks y owing (call .request)) (sym state-2)
           (ask-can x store call accepted owing told)
 
-      -- 4.
       module _ {x₃ : State} (asked-is : x₃ ≡ afterRequest (call .request) (closed x₂)) where
-        pub state-3 : x₃ ≡ asked x call
-        state-3 =
-            asked-is ∙ ap (afterRequest (call .request)) (ap closed state-2 ∙ opened-closed x (call .arrival))
+        requested : x₃ ≡ afterRequest (call .request) (joined x call)
+        requested =
+            asked-is ∙ ap (afterRequest (call .request)) (ap closed state-2 ∙ opened-closed x (earlyArrival x call))
 
-        module _ {written : Option ℕ} (to-write : written ≡ queueToWrite (asked x call)) where
-          pub can-write : WriteAsks x₃ written store
-          can-write =
-              subst (λ (y : State). WriteAsks y written store) (sym state-3)
-              (subst (λ (o : Option ℕ). WriteAsks (asked x call) o store) (sym to-write)
-              (write-can x store call accepted))
+        pub can-arrive-late : CachesFit x₃
+        can-arrive-late = subst CachesFit (sym requested) (late-can x store call accepted)
 
-          module _ {x₄ : State} {store₄ : List ℕ} (wrote-is : x₄ ≡ afterWrite written x₃)
-              (store-is : store₄ ≡ storeWritten written x₃ store) where
-            pub state-4 : x₄ ≡ wrote x call
-            state-4 =
-                wrote-is ∙ ap (afterWrite written) state-3 ∙ ap (λ (o : Option ℕ). afterWrite o (asked x call)) to-write
+        -- 4, after the arrival that joins behind the request.
+        module _ {late : Option Byte} (late-is : late ≡ lateArrival x call) {y₃ : State}
+            (filled : y₃ ≡ afterArrival late x₃) where
+          pub state-3 : y₃ ≡ asked x call
+          state-3 =
+              filled
+              ∙ ap (afterArrival late) requested
+              ∙ ap (λ (a : Option Byte). afterArrival a (afterRequest (call .request) (joined x call))) late-is
 
-            store-4 : store₄ ≡ wroteStore x store call
-            store-4 =
-                store-is
-                ∙ ap (λ (y : State). storeWritten written y store) state-3
-                ∙ ap (λ (o : Option ℕ). storeWritten o (asked x call) store) to-write
+          module _ {written : Option ℕ} (to-write : written ≡ queueToWrite (asked x call)) where
+            pub can-write : WriteAsks y₃ written store
+            can-write =
+                subst (λ (y : State). WriteAsks y written store) (sym state-3)
+                (subst (λ (o : Option ℕ). WriteAsks (asked x call) o store) (sym to-write)
+                (write-can x store call accepted))
 
-            module _ {readQueue : Option ℕ} (to-read : readQueue ≡ queueToRead (wrote x call)) where
-              pub can-read : ReadAsks x₄ readQueue store₄
-              can-read =
-                  subst (λ (y : State). ReadAsks y readQueue store₄) (sym state-4)
-                  (subst (λ (o : Option ℕ). ReadAsks (wrote x call) o store₄) (sym to-read)
-                  (subst (ReadAsks (wrote x call) (queueToRead (wrote x call))) (sym store-4)
-                  (read-can x store call accepted)))
+            module _ {x₄ : State} {store₄ : List ℕ} (wrote-is : x₄ ≡ afterWrite written y₃)
+                (store-is : store₄ ≡ storeWritten written y₃ store) where
+              pub state-4 : x₄ ≡ wrote x call
+              state-4 =
+                  wrote-is
+                  ∙ ap (afterWrite written) state-3
+                  ∙ ap (λ (o : Option ℕ). afterWrite o (asked x call)) to-write
 
-              -- 5, and all of them.
-              module _ {x₅ : State} (read-is : x₅ ≡ afterRead readQueue x₄ store₄) where
-                state-5 : x₅ ≡ refilled x store call
-                state-5 =
-                    read-is
-                    ∙ ap (λ (o : Option ℕ). afterRead o x₄ store₄) to-read
-                    ∙ ap (λ (y : State). afterRead (queueToRead (wrote x call)) y store₄) state-4
-                    ∙ ap (afterRead (queueToRead (wrote x call)) (wrote x call)) store-4
+              store-4 : store₄ ≡ wroteStore x store call
+              store-4 =
+                  store-is
+                  ∙ ap (λ (y : State). storeWritten written y store) state-3
+                  ∙ ap (λ (o : Option ℕ). storeWritten o (asked x call) store) to-write
 
-                pub can-turn : x₅ .phase < x₅ .sizes .b
-                can-turn =
-                    subst (λ (y : State). y .phase < y .sizes .b) (sym state-5) (turn-can x store call accepted)
+              module _ {readQueue : Option ℕ} (to-read : readQueue ≡ queueToRead (wrote x call)) where
+                pub can-read : ReadAsks x₄ readQueue store₄
+                can-read =
+                    subst (λ (y : State). ReadAsks y readQueue store₄) (sym state-4)
+                    (subst (λ (o : Option ℕ). ReadAsks (wrote x call) o store₄) (sym to-read)
+                    (subst (ReadAsks (wrote x call) (queueToRead (wrote x call))) (sym store-4)
+                    (read-can x store call accepted)))
 
-                pub all-in-turn : {x₆ : State} → x₆ ≡ afterPhase x₅ → {given : Option Byte} → given ≡ delivery x
-                    → refusal paper x store call ≡ 0
-                    → _≡_ {A = Answer}
-                    (record {
-                      number = 0;
-                      delivered = given;
-                      written = written;
-                      read = readQueue;
-                      state = x₆;
-                      store = store₄;
-                    })
-                    (slot paper x store call)
-                all-in-turn turned gave none-refused =
-                    answer-is (accept x store call) _ refl gave to-write to-read (turned ∙ ap afterPhase state-5) store-4
-                    ∙ ap (λ (n : ℕ). answer n x store call) (sym none-refused)
+                -- 5, and all of them.
+                module _ {x₅ : State} (read-is : x₅ ≡ afterRead readQueue x₄ store₄) where
+                  state-5 : x₅ ≡ refilled x store call
+                  state-5 =
+                      read-is
+                      ∙ ap (λ (o : Option ℕ). afterRead o x₄ store₄) to-read
+                      ∙ ap (λ (y : State). afterRead (queueToRead (wrote x call)) y store₄) state-4
+                      ∙ ap (afterRead (queueToRead (wrote x call)) (wrote x call)) store-4
+
+                  pub can-turn : x₅ .phase < x₅ .sizes .b
+                  can-turn =
+                      subst (λ (y : State). y .phase < y .sizes .b) (sym state-5) (turn-can x store call accepted)
+
+                  pub all-in-turn : {x₆ : State} → x₆ ≡ afterPhase x₅ → {given : Option Byte} → given ≡ delivery x
+                      → refusal paper x store call ≡ 0
+                      → _≡_ {A = Answer}
+                      (record {
+                        number = 0;
+                        delivered = given;
+                        written = written;
+                        read = readQueue;
+                        state = x₆;
+                        store = store₄;
+                      })
+                      (slot paper x store call)
+                  all-in-turn turned gave none-refused =
+                      answer-is (accept x store call) _ refl gave to-write to-read (turned ∙ ap afterPhase state-5)
+                      store-4
+                      ∙ ap (λ (n : ℕ). answer n x store call) (sym none-refused)

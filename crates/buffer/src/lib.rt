@@ -151,13 +151,15 @@ impl State {
             };
         }
         let owes = plan.owes;
+        let swaps = plan.swaps;
         let written = plan.written;
         let fetched = plan.read;
         // 1. The oldest cell leaves.
         let cell = self.cells[0];
         let gave = slot_steps::deliver(&mut self.head, regs.head_fill, cell);
-        // 2. The arriving byte joins the tail.
-        let joined = slot_steps::arrive(&mut self.tail, regs.tail_fill, arrival);
+        // 2. The arriving byte joins the tail, or waits for the request to make room.
+        let early = slot_plan::early_arrival(swaps, arrival);
+        let joined = slot_steps::arrive(&mut self.tail, regs.tail_fill, early);
         // 3. The request takes the youngest cell.
         let asked = slot_steps::ask(&mut self.tail, joined, owes, request);
         shift_cells(
@@ -165,6 +167,8 @@ impl State {
             regs.queues * (regs.block - 1) + 1,
             asked.cell,
         );
+        let late = slot_plan::late_arrival(swaps, arrival);
+        let filled = slot_steps::arrive(&mut self.tail, asked.fill, late);
         // 4. The two moves, where a queue is chosen.
         let mut firsts = self.firsts;
         let mut stored = self.stored;
@@ -173,7 +177,7 @@ impl State {
             &firsts,
             &mut stored,
             regs,
-            asked.fill,
+            filled,
             written,
             store,
         );
@@ -188,7 +192,7 @@ impl State {
         );
         self.firsts = firsts;
         self.stored = stored;
-        // 5. The phase. The marks rise with the fills.
+        // 5. The phase. The marks rise with the fills; a late arrival fills the place that the request has left.
         self.regs.phase = slot_steps::next_phase(regs.phase, regs.block);
         self.regs.tail_fill = tail_fill;
         self.regs.head_fill = head_fill;

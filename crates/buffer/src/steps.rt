@@ -43,7 +43,9 @@ impl State {
         }
     }
 
-    // 2. "The arriving byte joins the tail." The mark rises with the fill. 4, 5 and 9 are for `judge`.
+    // 2. "The arriving byte joins the tail." The mark rises with the fill. 4, 5 and 9 are for `judge`. A slot calls it
+    // before the request with what `slot_plan::early_arrival` gives and after it with `slot_plan::late_arrival`, told
+    // by `buffer_choices::swaps` of the state as handed in.
     pub fn arrive(mut self, arrival: Arrival) -> State
         requires { ⌜ CachesFit (stateOf self) ⌝ }
         ensures { λ r. ⌜ stateOf r ≡ afterArrival (arrivalIn arrival) (stateOf self) ⌝ }

@@ -20,7 +20,7 @@ use Rattle.buffer_margin.proofs.Counting.{bytes-within, cells-within}
 use Rattle.buffer_choices.specs.Says.{TallyOfAll}
 
 -- Counts of the first entries of an array, as many as the fill says and the array has, are those of the fill.
-counts-are : (fill m n : ℕ) (counts xs : List ℕ) → length xs ≡ m → n ≡ min fill m → TallyOfAll counts (bytesIn n xs)
+pub counts-are : (fill m n : ℕ) (counts xs : List ℕ) → length xs ≡ m → n ≡ min fill m → TallyOfAll counts (bytesIn n xs)
     → countsIn counts ≡ (λ (q : ℕ). countOf q (bytesIn fill xs))
 counts-are fill m n counts xs long e w =
     fun-ext (λ q.

@@ -8,25 +8,24 @@ use native.Mathlib.Omega.{arith}
 use lib.Dec.{ltb, leb}
 use lib.IntN.{ℤ, pos, _+ℤ_, _-ℤ_}
 use lib.Signed.{mag, ltZ}
-use lib.ListN.{length, getD}
+use lib.ListN.{length}
 use borrow.Author.Tests.{ltb-true, ltb-false, lt-ltb, le-ltb, leb-true, leb-false}
 use Rattle.model.specs.Sizes.{lookahead}
-use Rattle.model.specs.State.{ringOf, countOf, owedOf, headBytes, owedCells}
+use Rattle.model.specs.State.{countOf, owedOf, headBytes, owedCells}
 use Rattle.model.specs.Slot.{isOwed}
 use Rattle.model.proofs.basics.Tests.{by-test, by-zero}
 use Rattle.layout.specs.Lengths.{headPlaces, cellPlaces}
-use Rattle.layout.specs.Entries.{bytesIn, countsIn, cellsIn}
+use Rattle.layout.specs.Entries.{bytesIn, cellsIn}
 use Rattle.layout.proofs.Entries.{bytes-length}
 use Rattle.caches.proofs.Tallies.{count-le}
 use Rattle.layout.proofs.Cells.{cells-length}
 use Rattle.lookahead.proofs.Turns.{owed-at-most}
 use Rattle.layout.specs.declared.Regs.{Regs}
-use Rattle.layout.specs.Views.{Arrays, sizesIn, ringsIn, stateIn}
+use Rattle.layout.specs.Views.{Arrays, sizesIn, stateIn}
 use Rattle.layout.specs.Figures.{blocksIn}
-use Rattle.layout.proofs.Rings.{ring-at, ring-past}
 use Rattle.buffer_margin.proofs.Counting.{bytes-within, cells-within}
 use Rattle.buffer.proofs.Signs.{difference-up, difference-down}
-use Rattle.buffer_choices.proofs.Fullest.{counts-past}
+use Rattle.buffer_choices.proofs.Stored.{blocks-are}
 
 -- Two tests that hold together.
 same-test : (a b c d : ℕ) → (a < b → c < d) → (b ≤ a → d ≤ c) → ltb a b ≡ ltb c d
@@ -59,32 +58,6 @@ block-enough b n o h low =
     (λ z. ap (λ (k : ℕ). ltb o (h + k)) (ap (λ (k : ℕ). 2018 * k) z ∙ sym (ap (λ (k : ℕ). b * k) z ∙ mul-zero b)))
     (λ u. lt-ltb o (h + 2018 * n) (omega (arith, low, u))
     ∙ sym (lt-ltb o (h + b * n) (omega (arith, low, mul-le-mul large u)))))
-
--- The blocks of a queue as the array of counts has them.
-blocks-are : (queues : ℕ) (firsts stored : List ℕ) (q : ℕ)
-    → blocksIn queues stored q ≡ ringOf (ringsIn queues firsts stored) q .count
-blocks-are queues firsts stored q =
-    by-test (ltb q queues)
-    (λ t. rw (t, ring-at queues firsts stored q (ltb-true q queues t)))
-    (λ t. rw (t, ring-past queues firsts stored q (ltb-false q queues t)))
-
--- The stored bytes of a queue past the last, past the array, and of any other.
-module _ (queues : ℕ) (stored : List ℕ) (q b : ℕ) where
-  pub stored-bytes-past : queues ≤ q → min b 2018 * blocksIn queues stored q ≡ 0
-  stored-bytes-past h = rw (le-ltb q queues h) (mul-zero (min b 2018))
-
-  pub stored-bytes-beyond : length stored ≤ q → min b 2018 * blocksIn queues stored q ≡ 0
-  stored-bytes-beyond h =
-      by-test (ltb q queues)
-      (λ t. rw (t, counts-past stored q h) (mul-zero (min b 2018)))
-      (λ t. rw t (mul-zero (min b 2018)))
-
-  pub stored-bytes-known : q < queues → blocksIn queues stored q ≡ getD stored q 0
-  unfolding countsIn
-  stored-bytes-known h = rw (lt-ltb q queues h)
-
-pub stored-small : (b n : ℕ) → b ≤ 2018 → n ≤ 255 → b * n ≤ 514590
-stored-small b n h g = let p : b * n ≤ 2018 * 255 = mul-le-mul h g in p
 
 -- Of the entries and cells of an array there are no more than it has, so that margin and stored bytes fit their type.
 module _ (q n : ℕ) (xs : List ℕ) where
@@ -123,7 +96,7 @@ owes-now regs m q long {s} e =
     ∙ ap (λ (k : ℕ). ltb o (h + k)) e
     ∙ block-enough (regs .block) (blocksIn (regs .queues) (m .stored) q) o h
     (owed-low q (lookahead (sizesIn regs)) (m .cells) long)
-    ∙ ap (λ (n : ℕ). ltb o (h + regs .block * n)) (blocks-are (regs .queues) (m .firsts) (m .stored) q)
+    ∙ ap (λ (n : ℕ). ltb o (h + regs .block * n)) (blocks-are (regs .queues) (m .stored) q (m .firsts))
   where
     h : ℕ
     h = headBytes (stateIn regs m) q

@@ -1,18 +1,19 @@
-// What the steps of a slot must be told, of any state by value: whether a request is Owed, the queue to write and the
-// queue to read. With the six steps in turn they make the slot. Sizes, fills and queue numbers may be anything: every
-// number is read as some state.
+// What the steps of a slot must be told, of any state by value: whether the slot swaps, whether a request is Owed, the
+// queue to write and the queue to read. With the steps in turn they make the slot. Sizes, fills and queue numbers may
+// be anything: every number is read as some state.
 ghost use mathlib.Core.Path.{_≡_};
 ghost use mathlib.Core.Option.{some};
 ghost use Prim.Native.Nat.{ℕ, _+_, _-_, _*_, _≤_, min};
 ghost use lib.Dec.{eqb};
 ghost use lib.ListN.{length};
-ghost use Rattle.model.specs.Slot.{isOwed, fullest, queueToWrite, refillQueue, queueToRead};
-ghost use Rattle.layout.specs.Lengths.{headPlaces, queuePlaces};
+ghost use Rattle.model.specs.State.{tailBytes};
+ghost use Rattle.model.specs.Slot.{isOwed, swaps, fullest, queueToWrite, refillQueue, queueToRead};
+ghost use Rattle.layout.specs.Lengths.{tailPlaces, headPlaces, queuePlaces};
 ghost use Rattle.layout.specs.Entries.{bytesIn, countsIn, cellsIn};
-ghost use Rattle.layout.specs.Calls.{chosenIn, requestIn, callIn};
+ghost use Rattle.layout.specs.Calls.{chosenIn, arrivalIn, requestIn, callIn};
 ghost use Rattle.layout.specs.Figures.{blocksIn};
 ghost use Rattle.buffer.specs.Says.{stateOf, SlotSays};
-ghost use Rattle.buffer_choices.specs.Says.{TallyOfAll};
+ghost use Rattle.buffer_choices.specs.Says.{TallyOfAll, swapsAt};
 ghost use Rattle.buffer_choices.specs.InTurn.{StepsInTurn};
 use buffer::Slotted;
 use buffer::State;
@@ -94,11 +95,10 @@ fn scan(cells: &[u32], l: usize, credits: [u16; 256]) -> Chosen
     found
 }
 
-// The bytes of a queue in the slow store, b × blocks. A block counts for 2,018 bytes at most, which is more than there
-// are cells.
-fn stored_bytes(stored: &[u8], queues: usize, block: usize, queue: u8) -> u32
+// The blocks of a queue: one past the last has none, nor has one past the array.
+fn stored_blocks(stored: &[u8], queues: usize, queue: u8) -> usize
     requires { ⌜ length (now stored) ≡ queuePlaces ⌝ }
-    ensures { λ r. ⌜ (r ≡ min block 2018 * blocksIn queues (now (stored .entry)) queue) × (r ≤ 514590) ⌝ }
+    ensures { λ r. ⌜ (r ≡ blocksIn queues (now (stored .entry)) queue) × (r ≤ 255) ⌝ }
 {
     let q = queue as usize;
     if queues <= q {
@@ -107,7 +107,17 @@ fn stored_bytes(stored: &[u8], queues: usize, block: usize, queue: u8) -> u32
     if QUEUE_PLACES <= q {
         return 0;
     }
-    (minmax::smaller(block, 2018) as u32) * (stored[q] as u32)
+    stored[q] as usize
+}
+
+// The bytes of a queue in the slow store, b × blocks. A block counts for 2,018 bytes at most, which is more than there
+// are cells.
+fn stored_bytes(stored: &[u8], queues: usize, block: usize, queue: u8) -> u32
+    requires { ⌜ length (now stored) ≡ queuePlaces ⌝ }
+    ensures { λ r. ⌜ (r ≡ min block 2018 * blocksIn queues (now (stored .entry)) queue) × (r ≤ 514590) ⌝ }
+{
+    let blocks = stored_blocks(stored, queues, queue);
+    (minmax::smaller(block, 2018) * blocks) as u32
 }
 
 // 3. "It is Owed if the queue's head bytes + b × blocks exceed its Owed cells": its margin, which is its head bytes
@@ -125,6 +135,66 @@ pub fn owes(state: State, queue: u8) -> bool
     );
     let bytes = stored_bytes(&state.stored, state.regs.queues, state.regs.block, queue);
     0 < margin + (bytes as i32)
+}
+
+// The tail bytes of a queue. Where the fill is past its array, they are those of the array.
+fn tail_bytes(state: State, queue: u8) -> usize
+    ensures { λ r. ⌜ (r ≡ tailBytes (stateOf state) queue) × (r ≤ tailPlaces) ⌝ }
+{
+    let tails = tally(
+        &state.tail,
+        minmax::smaller(state.regs.tail_fill, TAIL_PLACES),
+    );
+    tails[queue as usize] as usize
+}
+
+// "Tail bytes + b × blocks equal K × b": counted in blocks, since K × b need not fit where the sizes are not accepted.
+fn is_full(bytes: usize, blocks: usize, block: usize, depth: usize) -> bool
+    requires { ⌜ (bytes ≤ tailPlaces) × (blocks ≤ 255) ⌝ }
+    ensures { λ r. ⌜ r ≡ eqb (bytes + block * blocks) (depth * block) ⌝ }
+{
+    if block == 0 {
+        return bytes == 0;
+    }
+    if bytes % block != 0 {
+        return false;
+    }
+    bytes / block + blocks == depth
+}
+
+// Whether an arrival and a request of one queue swap: the tail has a byte of it, it is full, and the request would be
+// Held.
+fn swaps_at(state: State, queue: u8) -> bool
+    ensures { λ r. ⌜ r ≡ swapsAt (stateOf state) queue ⌝ }
+{
+    let bytes = tail_bytes(state, queue);
+    if bytes == 0 {
+        return false;
+    }
+    let blocks = stored_blocks(&state.stored, state.regs.queues, queue);
+    if is_full(bytes, blocks, state.regs.block, state.regs.depth) {
+        return !owes(state, queue);
+    }
+    false
+}
+
+// Request 2.1: whether the slot takes its request before its arrival. Of the state as it is handed in, before the
+// oldest cell leaves.
+pub fn swaps(state: State, arrival: Arrival, request: Request) -> bool
+    ensures { λ r. ⌜ r ≡ swaps (stateOf state) (arrivalIn arrival) (requestIn request) ⌝ }
+{
+    match request {
+        Request::NoRequest => false,
+        Request::Asks(asked) => match arrival {
+            Arrival::NoArrival => false,
+            Arrival::Comes(queue, value) => {
+                if queue != asked {
+                    return false;
+                }
+                swaps_at(state, queue)
+            }
+        },
+    }
 }
 
 // 4. "First a write": the queue to write, or none.
@@ -156,7 +226,7 @@ pub fn to_read(state: State) -> Chosen
     Chosen::Nothing
 }
 
-// The six steps in turn, told by the three choices, are the slot: as a contract, so that it is proved with the code.
+// The steps in turn, told by the four choices, are the slot: as a contract, so that it is proved with the code.
 pub fn steps_in_turn()
     ensures { λ _. ⌜ StepsInTurn ⌝ }
 {}
@@ -171,8 +241,9 @@ pub fn owes_request(state: State, request: Request) -> bool
     }
 }
 
-// One slot, of any state and any store: judged, and where nothing is refused its steps in turn, each choice made on the
-// state at hand. On a refusal the very record comes back.
+// One slot, of any state and any store: judged, and where nothing is refused its steps in turn. Whether it swaps is
+// told by the state as it is handed in, each other choice by the state at hand. On a refusal the very record comes
+// back.
 pub fn in_turn(state: State, arrival: Arrival, request: Request, store: &mut [u8]) -> Slotted
     ensures { λ r. ⌜ SlotSays state (now (store .entry)) (callIn arrival request) r (now (store .exit)) ⌝ }
 {
@@ -186,14 +257,18 @@ pub fn in_turn(state: State, arrival: Arrival, request: Request, store: &mut [u8
             read: Chosen::Nothing,
         };
     }
+    let swapping = swaps(state, arrival, request);
     let first = state.deliver();
     let delivery = first.delivery;
     let delivered = first.state;
-    let arrived = delivered.arrive(arrival);
+    let early = slot_plan::early_arrival(swapping, arrival);
+    let arrived = delivered.arrive(early);
     let owing = owes_request(arrived, request);
     let asked = arrived.ask(owing, request);
-    let written = to_write(asked);
-    let wrote = asked.write(written, store);
+    let late = slot_plan::late_arrival(swapping, arrival);
+    let filled = asked.arrive(late);
+    let written = to_write(filled);
+    let wrote = filled.write(written, store);
     let readQueue = to_read(wrote);
     let refilled = wrote.read(readQueue, store);
     let turned = refilled.turn();

@@ -1,5 +1,5 @@
-// The same nine slots, each judged and then by its six steps in turn: a step is told by the state that the one before it
-// left.
+// The same nine slots, each judged and then by its steps in turn: a step is told by the state that the one before it
+// left. In a slot that swaps, the arrival joins after the request.
 use buffer::State;
 use layout::Arrival;
 use layout::Request;
@@ -11,18 +11,24 @@ fn in_steps(t: u64, state: State, arrival: Arrival, request: Request, store: &mu
         example_print::refusal(t, number);
         return state;
     }
+    // Whether the slot swaps, by the state as it is handed in.
+    let swapping = buffer_choices::swaps(state, arrival, request);
     // 1. The oldest cell leaves.
     let first = state.deliver();
     let delivery = first.delivery;
     let delivered = first.state;
-    // 2. The arriving byte joins the tail.
-    let arrived = delivered.arrive(arrival);
+    // 2. The arriving byte joins the tail, or waits for the request to make room.
+    let early = slot_plan::early_arrival(swapping, arrival);
+    let arrived = delivered.arrive(early);
     // 3. The request takes the youngest cell.
     let owing = buffer_choices::owes_request(arrived, request);
     let asked = arrived.ask(owing, request);
+    // 2, where it has waited.
+    let late = slot_plan::late_arrival(swapping, arrival);
+    let filled = asked.arrive(late);
     // 4. First a write, then a read, if the phase is b - 1.
-    let written = buffer_choices::to_write(asked);
-    let wrote = asked.write(written, store);
+    let written = buffer_choices::to_write(filled);
+    let wrote = filled.write(written, store);
     let read = buffer_choices::to_read(wrote);
     let refilled = wrote.read(read, store);
     example_print::moves(t, delivery, written, read);

@@ -9,7 +9,7 @@ pub mod sizes;
 pub mod slots;
 
 // The interface that the header describes: its GEL_VERSION.
-const VERSION: u32 = 1;
+const VERSION: u32 = 2;
 
 #[no_mangle]
 pub extern "C" fn gel_version() -> u32

@@ -8,14 +8,14 @@ use mathlib.Core.Option.{Option, none}
 use Prim.Native.Nat.{ℕ, zero, suc, _<_, _≤_}
 use native.Mathlib.Omega.{arith}
 use lib.Dec.{ltb}
-use lib.ListN.{length, drop, take, replicate, length-append}
+use lib.ListN.{length, drop, take, replicate}
 use lib.Seq.{drop-nil}
 use borrow.Author.Tests.{le-leb, le-ltb}
 use Rattle.model.specs.Basics.{tabulate, All, when}
 use Rattle.model.specs.Sizes.{Sizes, Limits, accepts, span, lookahead, storeBytes, full}
 use Rattle.model.specs.State.{Byte, empty, State, fresh, owedOf, keeps}
 use Rattle.model.specs.Slot.{Call, oldestCell, wrote, queueToRead, arrivalUnknown, arrivalFull, requestUnknown}
-use Rattle.model.specs.Slot.{arriving, nothingToTake, leavesUncovered, tailFull, headFull, refusals, Answer, slot}
+use Rattle.model.specs.Slot.{nothingToTake, leavesUncovered, tailFull, headFull, refusals, Answer, slot}
 use Rattle.model.specs.Lists.{Step, stepOf, run, Chain, stepsOf, listOf, accepted, requestAt, dueToAll}
 use Rattle.model.specs.Ideal.{Ideal, lineOf, standsFor}
 use Rattle.model.specs.Demand.{CachesHold, NoMiss, RefusedSilent, ListMeets, Demand-3}
@@ -23,10 +23,10 @@ use Rattle.model.proofs.basics.AllOf.{_also_}
 use Rattle.model.proofs.basics.Tests.{and-both, between-holds}
 use Rattle.model.proofs.basics.FirstRefusal.{not-first, when-excluded}
 use Rattle.model.proofs.basics.Rings.{ring-fresh}
-use Rattle.model.proofs.meaning.Steps.{tail-looked-at, head-looked-at}
+use Rattle.model.proofs.meaning.Steps.{head-looked-at}
 use Rattle.model.proofs.one_slot.Rules.{keeps-holds}
 use Rattle.model.proofs.one_slot.Accepted.{RefusedOrAccepted, was-refused, was-accepted, outcome}
-use Rattle.model.proofs.one_slot.Kept.{length-joined, accept-kept}
+use Rattle.model.proofs.one_slot.Kept.{looked-at-fits, accept-kept}
 use Rattle.model.proofs.one_slot.Calls.{chain-is-list}
 use Rattle.model.proofs.no_miss.Good.{Good, slot-good, good-fresh}
 use Rattle.model.proofs.delay.IdealSlot.{same-ideal}
@@ -63,12 +63,7 @@ module _ (limits : Limits) where
   call-caches x store call a g (was-accepted f) =
       let k = accept-kept (full limits) x store call (omega arith) f .kept in record {
         tail-joined =
-            omega (
-              arith,
-              tail-looked-at x call,
-              length-append (x .tail) (arriving (call .arrival)),
-              length-joined x (call .arrival) (g .kept .tail-fits) (f .judged .tail-room),
-            );
+            omega (arith, looked-at-fits (full limits) x store call (omega arith) (f .judged), k .tail-fits);
         tail-ends = k .tail-fits;
         head-read = omega (arith, head-looked-at x store call, k .head-fits);
         head-ends = k .head-fits;
@@ -109,11 +104,11 @@ module _ (limits : Limits) where
       when-excluded bad (not (keeps (full limits) x)) 3 pos three
       also when-excluded bad (ltb (length store) (storeBytes (x .sizes))) 2 pos two
       also later (arrivalUnknown x (call .arrival)) 4 (omega arith)
-      also later (arrivalFull x (call .arrival)) 5 (omega arith)
+      also later (arrivalFull x (call .arrival) (call .request)) 5 (omega arith)
       also later (requestUnknown x (call .request)) 6 (omega arith)
       also later (nothingToTake x (call .arrival) (call .request)) 7 (omega arith)
       also later (leavesUncovered (oldestCell (x .cells)) x) 8 (omega arith)
-      also later (tailFull x (call .arrival)) 9 (omega arith)
+      also later (tailFull x (call .arrival) (call .request)) 9 (omega arith)
       also later (headFull (wrote x call) (queueToRead (wrote x call))) 10 (omega arith)
       also tt)
       (f ∙ e)

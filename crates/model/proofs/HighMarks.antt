@@ -1,19 +1,52 @@
 -- A high mark is the greatest fill that was looked at: an accepted slot raises it to the new fill where that is
 -- greater, a refused one leaves the state as it came, and a fresh state's marks are 0. `marks-exact` says it.
 use mathlib.Core.Path.{_≡_, refl, ap, _∙_}
-use mathlib.Core.List.{List, [], _∷_, _++_, append-nil}
-use mathlib.Core.Option.{none}
-use Prim.Native.Nat.{ℕ, suc, max}
+use mathlib.Core.Bool.{Bool}
+use mathlib.Core.List.{List, [], _∷_}
+use mathlib.Core.Option.{Option, none}
+use Prim.Native.Nat.{ℕ, suc, _≤_, max}
 use native.Mathlib.Omega.{arith}
-use lib.ListN.{length}
+use lib.ListN.{length, length-append}
 use borrow.Author.Tests.{ne-eqb}
+use Rattle.model.specs.Basics.{choose}
 use Rattle.model.specs.Sizes.{Sizes, Design}
-use Rattle.model.specs.State.{State, fresh}
-use Rattle.model.specs.Slot.{Call, oldestCell, arriving, headRead, wrote, wroteStore, Answer, slot}
-use Rattle.model.specs.Lists.{Step, stepOf, run, lastState, listOf, accepted}
+use Rattle.model.specs.State.{Byte, State, fresh}
+use Rattle.model.specs.Slot.{Call, oldestCell, arriving, tailLeft, swaps, earlyArrival, lateArrival, joined}
+use Rattle.model.specs.Slot.{asked, headRead, wrote, wroteStore, Answer, accept, slot}
+use Rattle.model.specs.Lists.{Step, joinedFillOf, stepOf, run, lastState, listOf, accepted}
 use Rattle.model.specs.HighMarks.{greatest, tailLooks, headLooks, GreatestFills, MarksRise, MarksExact}
+use Rattle.model.proofs.basics.Tests.{by-test}
+use Rattle.model.proofs.meaning.Steps.{tail-looked-at}
+use Rattle.model.proofs.one_slot.StepsKeepRules.{length-tail-left}
+use Rattle.model.proofs.one_slot.Swap.{early-is-none, late-is-none}
 use Rattle.model.proofs.one_slot.Accepted.{RefusedOrAccepted, was-refused, was-accepted, outcome}
 use Rattle.model.proofs.one_slot.Kept.{length-head-without}
+
+-- Request 2.8: "On a handed-in state the mark is the greater of the old one and the new fill." Of a state that keeps
+-- the rules, since the mark of such a state is at least its fill already. (Of the head it is `head-mark-rises`, in
+-- proofs/meaning/Steps.)
+pub tail-mark-rises : (x : State) (store : List ℕ) (call : Call) → length (x .tail) ≤ x .tailMark
+    → accept x store call .state .tailMark ≡ max (x .tailMark) (joinedFillOf 0 x call)
+tail-mark-rises x store call h =
+    by-test (swaps x (call .arrival) (call .request))
+    (λ t. omega (
+      arith,
+      h,
+      length-append (x .tail) (arriving (earlyArrival x call)),
+      ap (λ (a : Option Byte). length (arriving a)) (early-is-none x call t),
+      looked-at t,
+    ))
+    (λ t. omega (
+      arith,
+      length-append (tailLeft (joined x call) (call .request)) (arriving (lateArrival x call)),
+      ap (λ (a : Option Byte). length (arriving a)) (late-is-none x call t),
+      length-tail-left (joined x call) (call .request),
+      looked-at t,
+    ))
+  where
+    looked-at : {t : Bool} → swaps x (call .arrival) (call .request) ≡ t
+        → joinedFillOf 0 x call ≡ length (choose t (asked x call .tail) (joined x call .tail))
+    looked-at e = ap (λ (b : Bool). length (choose b (asked x call .tail) (joined x call .tail))) e
 
 module _ (design : Design) where
   -- One slot, and then what the rest of the list does.
@@ -22,7 +55,10 @@ module _ (design : Design) where
       → MarksRise x (accepted (stepOf x store call a ∷ rest)) y
   marks-more x store call a rest y (was-refused n e) m = rw (ne-eqb (suc n) 0 (λ z. omega arith)) m
   marks-more x store call a rest y (was-accepted f) m = record {
-    tail-mark = m .tail-mark ∙ max-assoc _ _ (greatest (tailLooks (accepted rest)));
+    tail-mark = m .tail-mark
+        ∙ ap (λ (n : ℕ). max n (greatest (tailLooks (accepted rest))))
+        (tail-mark-rises x store call (f .judged .kept .tail-mark .0))
+        ∙ max-assoc _ _ (greatest (tailLooks (accepted rest)));
     head-mark = m .head-mark ∙ max-assoc _ _ (greatest (headLooks (accepted rest)));
   }
     where
@@ -51,12 +87,23 @@ module _ (design : Design) where
     no-arrival : call .arrival ≡ none → slot design x store call .state .tailMark ≡ x .tailMark
     no-arrival e = go (slot design x store call) (outcome design x store call)
       where
-        joins-none : length (x .tail ++ arriving (call .arrival)) ≡ length (x .tail)
-        joins-none = ap (λ o. length (x .tail ++ arriving o)) e ∙ ap length (append-nil (x .tail))
+        joins-none : joinedFillOf 0 x call ≡ length (x .tail)
+        joins-none =
+            omega (
+              arith,
+              tail-looked-at x call (ap (λ o. swaps x o (call .request)) e),
+              ap (λ o. length (arriving o)) e,
+            )
 
         go : (a : Answer) → RefusedOrAccepted design x store call a → a .state .tailMark ≡ x .tailMark
         go a (was-refused n r) = refl
-        go a (was-accepted f) = omega (arith, joins-none, f .judged .kept .tail-mark)
+        go a (was-accepted f) =
+            omega (
+              arith,
+              tail-mark-rises x store call (f .judged .kept .tail-mark .0),
+              joins-none,
+              f .judged .kept .tail-mark,
+            )
 
     no-read : slot design x store call .read ≡ none → slot design x store call .state .headMark ≡ x .headMark
     no-read e = go (slot design x store call) (outcome design x store call) e

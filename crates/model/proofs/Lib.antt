@@ -17,6 +17,8 @@ pub mod delay
 pub mod missing
 -- Demand 3.
 pub mod Demand
+-- Request 2.1: what a slot that swaps does, and that all others are as before.
+pub mod Swaps
 -- The high marks are the greatest fills.
 pub mod HighMarks
 -- The paper's examples and its numbers at their ends, computed.

@@ -3,6 +3,7 @@
 pub mod Rules
 pub mod StepsKeepRules
 pub mod MovesKeepRules
+pub mod Swap
 pub mod Accepted
 pub mod Kept
 pub mod Elsewhere

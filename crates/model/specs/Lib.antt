@@ -1,7 +1,7 @@
 -- The slot buffer of document 01, as definitions. Sizes, State, Slot and Lists render its sections in its order;
 -- Basics has what they share, Calls the calls by name, Ideal the buffer as a user thinks of it, Demand the statements
--- of demand 3, HighMarks those of request 2.8, Idle what idle slots come to, Examples the paper's table of examples,
--- RequestExamples that of the requests.
+-- of demand 3, Swap those of request 2.1, HighMarks those of 2.8, Idle what idle slots come to, Examples the paper's
+-- table of examples, RequestExamples that of the requests.
 pub mod Basics
 pub mod Sizes
 pub mod State
@@ -10,6 +10,7 @@ pub mod Calls
 pub mod Lists
 pub mod Ideal
 pub mod Demand
+pub mod Swap
 pub mod HighMarks
 pub mod Idle
 pub mod Examples

@@ -8,7 +8,7 @@ use lib.ListN.{length, take, getElem?}
 use Rattle.model.specs.Basics.{choose, tabulate}
 use Rattle.model.specs.Sizes.{Sizes, Design}
 use Rattle.model.specs.State.{Byte, State, fresh, valuesOf}
-use Rattle.model.specs.Slot.{Call, asByte, arriving, joined, refilled, Answer, slot}
+use Rattle.model.specs.Slot.{Call, asByte, arriving, swaps, joined, asked, refilled, Answer, slot}
 
 -- One slot of a list: the number that it answers (0, or a refusal), what it took of its arrival and its request, its
 -- delivery and moves, state and store as it ends, the tail's fill "just after the arrival joins it" and the head's
@@ -30,8 +30,11 @@ abbrev pub taken : {A : Type 0} → ℕ → Option A → Option A
 taken zero o = o
 taken (suc n) o = none
 
+-- "The tail is looked at just after the arrival joins it, which in a slot of 2.1 is after the request. The head is
+-- looked at just after the read" (2.8).
 abbrev pub joinedFillOf : ℕ → State → Call → ℕ
-joinedFillOf zero x call = length (joined x call .tail)
+joinedFillOf zero x call =
+    length (choose (swaps x (call .arrival) (call .request)) (asked x call .tail) (joined x call .tail))
 joinedFillOf (suc n) x call = length (x .tail)
 
 abbrev pub readFillOf : ℕ → State → List ℕ → Call → ℕ

@@ -5,7 +5,7 @@ use lib.ListN.{replicate}
 use Rattle.model.specs.Sizes.{sizes, paper}
 use Rattle.model.specs.State.{byte, empty, owed, State, fresh, withTailMark, withHeadMark}
 use Rattle.model.specs.Calls.{arrival, both, idle}
-use Rattle.model.specs.Examples.{_⇒_, taken, writes, reads, takenHeld, refused, _delivering_}
+use Rattle.model.specs.Examples.{_⇒_, taken, writes, reads, takenHeld, refused, misses, _delivering_}
 use Rattle.model.specs.Examples.{_fills_and_marks_and_, Example, slots, made_phase_tail_head_cells_blocks_}
 
 -- Q 1, b 2, K 2: one tail byte, and so a tail mark of 1.
@@ -20,8 +20,42 @@ readDue =
     made (sizes 2 2 1) phase 1 tail [] head (replicate 3 (byte 0 65)) cells (owed 0 ∷ owed 1 ∷ empty ∷ [])
     blocks (0 ∷ 1 ∷ [])
 
+-- Q 2, b 2, K 1: both queues are full, and so is the tail.
+abbrev tailOfFullQueues : State
+tailOfFullQueues =
+    made (sizes 2 2 1) phase 0 tail (byte 0 65 ∷ byte 1 66 ∷ byte 0 67 ∷ byte 1 68 ∷ []) head []
+    cells (replicate 3 empty) blocks (0 ∷ 0 ∷ [])
+
 abbrev pub requestExamples : List Example
 requestExamples =
+    -- 2.1, "where the arrival's queue is full, the request is for that queue, the request would be Held, and the tail
+    -- already has a byte of it, take the request before the arrival": 65 goes with its cell, 66 and 67 to slow store.
+    slots paper (fresh paper (sizes 1 2 1))
+    (idle ⇒ taken ∷ arrival 0 65 ⇒ taken ∷ arrival 0 66 ⇒ taken ∷ both 0 67 0 ⇒ writes 0 ∷
+    idle ⇒ taken ∷ idle ⇒ taken delivering byte 0 65 ∷ idle ⇒ taken ∷ idle ⇒ taken ∷ []) ∷
+    -- Where it would be Owed, 5 comes as before: the block is in store.
+    slots paper (fresh paper (sizes 1 2 1))
+    (arrival 0 65 ⇒ taken ∷ arrival 0 66 ⇒ writes 0 ∷ both 0 67 0 ⇒ refused 5 ∷
+    idle ⇒ taken ∷ idle ⇒ taken ∷ idle ⇒ taken ∷ idle ⇒ taken ∷ []) ∷
+    -- Where every byte in store is owed and the tail has none, too; and where another queue is asked.
+    slots paper (made (sizes 1 2 1) phase 0 tail [] head [] cells (replicate 2 (owed 0)) blocks (1 ∷ []))
+    (both 0 67 0 ⇒ refused 5 ∷ []) ∷
+    slots paper tailOfFullQueues
+    (both 0 69 1 ⇒ refused 5 ∷ []) ∷
+    -- "9 looks at the tail after the request": a full tail takes the byte, here and where the queue is then written.
+    slots paper tailOfFullQueues
+    (both 1 69 1 ⇒ takenHeld 1 66 fills 4 and 0 marks 4 and 0 ∷ []) ∷
+    slots paper (made (sizes 1 1 1) phase 0 tail (byte 0 65 ∷ []) head [] cells (empty ∷ []) blocks (0 ∷ []))
+    (both 0 66 0 ⇒ writes 0 fills 0 and 0 marks 1 and 0 ∷ idle ⇒ taken delivering byte 0 65 ∷ []) ∷
+    -- "Such a slot is accepted if nothing else refuses it": 8 does.
+    slots paper (made (sizes 1 2 2) phase 0 tail (byte 0 65 ∷ byte 0 66 ∷ []) head [] cells (replicate 2 (owed 0))
+    blocks (1 ∷ []))
+    (both 0 67 0 ⇒ misses 0 ∷ []) ∷
+    -- The tail "is looked at just after the arrival joins it, which in a slot of 2.1 is after the request" (2.8): its
+    -- mark is 2 and never 3.
+    slots paper (made (sizes 1 2 1) phase 0 tail (byte 0 65 ∷ byte 0 66 ∷ []) head [] cells (replicate 2 empty)
+    blocks (0 ∷ []))
+    (both 0 67 0 ⇒ takenHeld 0 65 fills 2 and 0 marks 2 and 0 ∷ []) ∷
     -- 2.8, "the tail is looked at just after the arrival joins it": before the request takes the byte, and before it is
     -- written with its block. What was reached stays.
     slots paper (fresh paper (sizes 1 2 2))

@@ -1,11 +1,12 @@
--- Document 01, "One slot" and "What refusals hand back" (2 to 10): the five steps, the refusals, and the slot itself.
+-- Document 01, "One slot" and "What refusals hand back" (2 to 10): the five steps, the refusals, and the slot itself;
+-- document 02, 2.1: which slots swap.
 use mathlib.Core.Bool.{Bool, false, _&&_, not}
 use mathlib.Core.List.{List, [], _∷_, _++_}
 use mathlib.Core.Option.{Option, some, none}
 use Prim.Native.Nat.{ℕ, zero, suc, _+_, _-_, _*_, _%_, max}
 use lib.Dec.{eqb, ltb, leb}
 use lib.ListN.{length, take, drop, set, getElem?}
-use Rattle.model.specs.Basics.{choose, update, when, firstRefusal}
+use Rattle.model.specs.Basics.{choose, update, allTrue, when, firstRefusal}
 use Rattle.model.specs.Sizes.{Sizes, Design, tailSize, headSize, storeBytes, blockPlace}
 use Rattle.model.specs.State.{Byte, byte, Cell, empty, held, owed, Ring, ring, State, valuesOf, countOf}
 use Rattle.model.specs.State.{withPhase, withTail, withHead, withCells, withRings, withTailMark, withHeadMark}
@@ -176,12 +177,34 @@ afterRead readQueue x store =
 abbrev pub afterPhase : State → State
 afterPhase x = withPhase (choose (moves x) 0 (x .phase + 1)) x
 
--- The state along a slot: after the arrival, after the request, after the write (with its store), after the read.
+-- A queue with no space left: "tail bytes + b × blocks equal K × b".
+abbrev pub isFull : State → ℕ → Bool
+isFull x q = eqb (tailBytes x q + x .sizes .b * blocks x q) (x .sizes .K * x .sizes .b)
+
+-- Request 2.1: "Where the arrival's queue is full, the request is for that queue, the request would be Held, and the
+-- tail already has a byte of it, take the request before the arrival." Judged on the state as handed in.
+abbrev pub swapTests : State → Byte → ℕ → List Bool
+swapTests x y q = isFull x (y .queue) ∷ eqb q (y .queue) ∷ not (isOwed x q) ∷ ltb 0 (tailBytes x q) ∷ []
+
+abbrev pub swaps : State → Option Byte → Option ℕ → Bool
+swaps x none request = false
+swaps x (some y) none = false
+swaps x (some y) (some q) = allTrue (swapTests x y q)
+
+-- The arrival joins early, before the request, or late, after it, where the slot swaps: one of the two is none.
+abbrev pub earlyArrival : State → Call → Option Byte
+earlyArrival x call = choose (swaps x (call .arrival) (call .request)) none (call .arrival)
+
+abbrev pub lateArrival : State → Call → Option Byte
+lateArrival x call = choose (swaps x (call .arrival) (call .request)) (call .arrival) none
+
+-- The state along a slot: after the early arrival, after the request and the late arrival, after the write (with its
+-- store), after the read.
 abbrev pub joined : State → Call → State
-joined x call = afterArrival (call .arrival) (afterDelivery x)
+joined x call = afterArrival (earlyArrival x call) (afterDelivery x)
 
 abbrev pub asked : State → Call → State
-asked x call = afterRequest (call .request) (joined x call)
+asked x call = afterArrival (lateArrival x call) (afterRequest (call .request) (joined x call))
 
 abbrev pub wrote : State → Call → State
 wrote x call = afterWrite (queueToWrite (asked x call)) (asked x call)
@@ -198,11 +221,10 @@ abbrev pub arrivalUnknown : State → Option Byte → Bool
 arrivalUnknown x none = false
 arrivalUnknown x (some y) = leb (x .sizes .Q) (y .queue)
 
--- 5: "Arrival queue's tail bytes + b × blocks equal K × b."
-abbrev pub arrivalFull : State → Option Byte → Bool
-arrivalFull x none = false
-arrivalFull x (some y) =
-    eqb (tailBytes x (y .queue) + x .sizes .b * blocks x (y .queue)) (x .sizes .K * x .sizes .b)
+-- 5: "Arrival queue's tail bytes + b × blocks equal K × b", but for a slot that swaps.
+abbrev pub arrivalFull : State → Option Byte → Option ℕ → Bool
+arrivalFull x none request = false
+arrivalFull x (some y) request = isFull x (y .queue) && not (swaps x (some y) request)
 
 -- 6: "Request queue Q or more."
 abbrev pub requestUnknown : State → Option ℕ → Bool
@@ -220,10 +242,13 @@ leavesUncovered empty x = false
 leavesUncovered (held q v) x = false
 leavesUncovered (owed q) x = eqb (headBytes x q) 0
 
--- 9: "Tail full before the arrival."
-abbrev pub tailFull : State → Option Byte → Bool
-tailFull x none = false
-tailFull x (some y) = leb (tailSize (x .sizes)) (length (x .tail))
+-- 9: "Tail full before the arrival"; where the slot swaps, "9 looks at the tail after the request".
+abbrev pub tailFound : State → Option Byte → Option ℕ → List Byte
+tailFound x arrival request = choose (swaps x arrival request) (tailLeft x request) (x .tail)
+
+abbrev pub tailFull : State → Option Byte → Option ℕ → Bool
+tailFull x none request = false
+tailFull x (some y) request = leb (tailSize (x .sizes)) (length (tailFound x (some y) request))
 
 -- 10: "Head cannot take the block of step 4", "judged as step 4 finds the head".
 abbrev pub headFull : State → Option ℕ → Bool
@@ -236,11 +261,11 @@ refusals design x store call =
     when (not (keeps design x)) 3 ∷
     when (ltb (length store) (storeBytes (x .sizes))) 2 ∷
     when (arrivalUnknown x (call .arrival)) 4 ∷
-    when (arrivalFull x (call .arrival)) 5 ∷
+    when (arrivalFull x (call .arrival) (call .request)) 5 ∷
     when (requestUnknown x (call .request)) 6 ∷
     when (nothingToTake x (call .arrival) (call .request)) 7 ∷
     when (leavesUncovered (oldestCell (x .cells)) x) 8 ∷
-    when (tailFull x (call .arrival)) 9 ∷
+    when (tailFull x (call .arrival) (call .request)) 9 ∷
     when (headFull (wrote x call) (queueToRead (wrote x call))) 10 ∷ []
 
 abbrev pub refusal : Design → State → List ℕ → Call → ℕ

@@ -1,11 +1,12 @@
 // The model of document 01: its definitions are in specs/, one file for each section, and their theory in proofs/.
-// No function here makes a state or runs a slot. These tie demand 3, the high marks, the examples and slots worked by
-// hand to contracts, so that the gate must prove them.
+// No function here makes a state or runs a slot. These tie demand 3, the requests' own sentences, the examples and
+// slots worked by hand to contracts, so that the gate must prove them.
 ghost use mathlib.Core.Path.{_≡_};
 ghost use mathlib.Core.Bool.{true, false};
 ghost use Rattle.model.specs.Basics.{allOf, someOf};
 ghost use Rattle.model.specs.Sizes.{Limits, Design};
 ghost use Rattle.model.specs.Demand.{Demand-3};
+ghost use Rattle.model.specs.Swap.{SwapSays};
 ghost use Rattle.model.specs.HighMarks.{MarksExact};
 ghost use Rattle.model.specs.Examples.{examples, holds};
 ghost use Rattle.model.specs.RequestExamples.{requestExamples};
@@ -15,6 +16,11 @@ ghost use Rattle.model.specs.Worked.{WorkedSlots, WorkedBlocks, WorkedId
 // Demand 3, under any limits of the sizes.
 pub fn demand_3()
     ensures { λ _. ⌜ ((limits : Limits) → Demand-3 limits) ⌝ }
+{}
+
+// Request 2.1, in any design: what a slot that swaps does, and that all others answer as before.
+pub fn swap_in_a_full_queue()
+    ensures { λ _. ⌜ ((design : Design) → SwapSays design) ⌝ }
 {}
 
 // Request 2.8, in any design: each high mark is exactly the greatest fill since the fresh state.

@@ -1,6 +1,6 @@
 -- The three kinds of slot that the lists are made of, by the figures: an arrival of the round's queue, a request of it
 -- that is Owed, and an idle slot. Each is accepted.
-use mathlib.Core.Path.{_≡_, refl, ap, sym, subst}
+use mathlib.Core.Path.{_≡_, refl, ap, sym, _∙_, subst}
 use mathlib.Core.Bool.{true}
 use mathlib.Core.List.{List}
 use Prim.Native.Nat.{ℕ, suc, _+_, _-_, _*_, _<_, _≤_}
@@ -8,10 +8,11 @@ use native.Mathlib.Omega.{arith}
 use native.Mathlib.Nat.{mul-le-mul-left, mul-le-mul-right}
 use borrow.Author.Tests.{ne-eqb, lt-ltb, lt-leb}
 use Rattle.model.specs.Sizes.{Sizes, Limits}
-use Rattle.model.specs.State.{State, tailBytes, headBytes, owedCells, blocks}
+use Rattle.model.specs.State.{byte, State, tailBytes, headBytes, owedCells, blocks}
 use Rattle.model.specs.Slot.{Call, isOwed, asked}
 use Rattle.model.specs.Calls.{arrival, request, idle}
 use Rattle.model.proofs.basics.Limits.{within-limits}
+use Rattle.model.proofs.one_slot.Swap.{five-as-before}
 use Rattle.model_least.proofs.Slots.{Ready, stateAfter, storeAfter, Allowed, not-8}
 use Rattle.model_least.proofs.Figures.{Figures, figures, Stands, stands-arrived, stands-asked, stands-idle}
 use Rattle.model_least.proofs.Moves.{Calm}
@@ -43,7 +44,8 @@ module _ (limits : Limits) (s : Sizes) (x : State) (store : List ℕ) (ready : R
   pub arrival-allowed : blocks x q ≡ 0 → tailBytes x q < s .K * s .b → Allowed x (arrival q 0)
   arrival-allowed none-stored l = record {
     not-4 = lt-leb (x .sizes .Q) q (omega (arith, below, queues-are limits s x store ready));
-    not-5 = ne-eqb (tailBytes x q + x .sizes .b * blocks x q) (x .sizes .K * x .sizes .b)
+    not-5 = five-as-before x (arrival q 0) refl (byte q 0) refl
+        ∙ ne-eqb (tailBytes x q + x .sizes .b * blocks x q) (x .sizes .K * x .sizes .b)
         (λ e. omega (
           arith,
           e,

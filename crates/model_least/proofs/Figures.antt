@@ -125,11 +125,19 @@ module _ (x : State) (q : ℕ) (o : isOwed x q ≡ true) where
     );
   }
 
+-- The slots below have no arrival beside a request, and so none swaps (request 2.1): no byte joins after the request.
+stands-none-late : (x : State) (q : ℕ) (here : Figures) (there : ℕ → Figures) → Stands q here there x
+    → Stands q here there (afterArrival none x)
+stands-none-late x q here there v = record {
+  at-here = shows-no-arrival x here q (v .at-here);
+  at-there = λ p l u. shows-no-arrival x (there p) p (v .at-there p l u);
+}
+
 -- Steps 1 to 3 of a slot: an arrival of q, a request of q that is Owed, and an idle slot.
 module _ (x : State) (covered : leavesUncovered (oldestCell (x .cells)) x ≡ false) (q : ℕ) (there : ℕ → Figures) where
   pub stands-arrived : (t n m a : ℕ) → Stands q (figures t n m a) there x
       → Stands q (figures (suc t) n m a) there (asked x (arrival q 0))
-  stands-arrived t n m a v = record {
+  stands-arrived t n m a v = stands-none-late _ q _ there record {
     at-here = shows-no-request (joined x (arrival q 0)) _ q
         (shows-arrival-here (afterDelivery x) t n m a q (shows-delivered x covered _ q (v .at-here)));
     at-there = λ p l u. shows-no-request (joined x (arrival q 0)) _ p
@@ -138,7 +146,7 @@ module _ (x : State) (covered : leavesUncovered (oldestCell (x .cells)) x ≡ fa
 
   pub stands-asked : isOwed x q ≡ true → (t n m a : ℕ) → Stands q (figures t n m a) there x
       → Stands q (figures t n m (suc a)) there (asked x (request q))
-  stands-asked o t n m a v = record {
+  stands-asked o t n m a v = stands-none-late _ q _ there record {
     at-here = shows-request-here (joined x (request q)) q owed-now t n m a
         (shows-no-arrival (afterDelivery x) _ q (shows-delivered x covered _ q (v .at-here)));
     at-there = λ p l u. shows-request-there (joined x (request q)) q owed-now p _ u
@@ -149,11 +157,11 @@ module _ (x : State) (covered : leavesUncovered (oldestCell (x .cells)) x ≡ fa
       owed-now = owed-delivered x covered q o
 
   pub stands-idle : (here : Figures) → Stands q here there x → Stands q here there (asked x idle)
-  stands-idle here v = record {
+  stands-idle here v = stands-none-late _ q here there record {
     at-here = idled here q (v .at-here);
     at-there = λ p l u. idled (there p) p (v .at-there p l u);
   }
     where
-      idled : (f : Figures) (p : ℕ) → Shows f x p → Shows f (asked x idle) p
+      idled : (f : Figures) (p : ℕ) → Shows f x p → Shows f (afterRequest none (joined x idle)) p
       idled f p w = shows-no-request (joined x idle) f p
           (shows-no-arrival (afterDelivery x) f p (shows-delivered x covered f p w))

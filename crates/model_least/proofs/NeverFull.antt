@@ -1,6 +1,7 @@
 -- With one block to a queue and fewer queues than a block has bytes, no list fills the tail: its queues' tail bytes are
--- at most K × b each, Q × b in all, and the tail's size is b - Q more.
-use mathlib.Core.Path.{_≡_, refl, ap, _∙_}
+-- at most K × b each, Q × b in all, and the tail's size is b - Q more. In a slot that swaps (request 2.1) the tail is
+-- looked at with as many bytes as it was handed in with.
+use mathlib.Core.Path.{_≡_, refl, ap, sym, _∙_, subst}
 use mathlib.Core.Bool.{Bool, true, false}
 use mathlib.Core.List.{List, [], _∷_}
 use Prim.Native.Nat.{ℕ, _*_, _<_, _≤_}
@@ -10,12 +11,14 @@ use borrow.Author.Tests.{ne-eqb}
 use Rattle.model.specs.Basics.{choose, someOf}
 use Rattle.model.specs.Sizes.{Sizes, Limits, accepts, tailSize, full}
 use Rattle.model.specs.State.{State, fresh, tailBytes}
-use Rattle.model.specs.Slot.{Call, Answer, slot}
+use Rattle.model.specs.Slot.{Call, swaps, joined, asked, Answer, slot}
 use Rattle.model.specs.Lists.{joinedFillOf, run, listOf}
+use Rattle.model.proofs.basics.Tests.{by-test}
 use Rattle.model.proofs.basics.Sums.{sum-bound}
 use Rattle.model.proofs.basics.Bytes.{sum-counts}
 use Rattle.model.proofs.basics.Rings.{times-pred}
 use Rattle.model.proofs.one_slot.Rules.{Rules, Keeps, keeps-fresh}
+use Rattle.model.proofs.one_slot.Swap.{swap-looked-at}
 use Rattle.model.proofs.one_slot.Accepted.{RefusedOrAccepted, was-refused, was-accepted, outcome}
 use Rattle.model.proofs.one_slot.Kept.{rules-2, slot-kept}
 use Rattle.model_least.specs.Least.{tailFills}
@@ -38,7 +41,11 @@ module _ (limits : Limits) (x : State) (store : List ℕ) (call : Call) (kept : 
     where
       go : (a : Answer) → RefusedOrAccepted (full limits) x store call a → joinedFillOf (a .number) x call ≤ most
       go a (was-refused n e) = tail-bounded _ x (kept .within)
-      go a (was-accepted f) = tail-bounded _ _ (rules-2 (full limits) x store call (omega arith) (f .judged))
+      go a (was-accepted f) =
+          by-test (swaps x (call .arrival) (call .request))
+          (λ t. omega (arith, swap-looked-at x call t (f .judged .covered), tail-bounded _ x (kept .within)))
+          (λ t. subst (λ (b : Bool). length (choose b (asked x call .tail) (joined x call .tail)) ≤ most) (sym t)
+          (tail-bounded _ _ (rules-2 (full limits) x store call (omega arith) (f .judged))))
 
 neither : (t u : Bool) → t ≡ false → u ≡ false → choose t true u ≡ false
 neither t u e f = rw (e, f)

@@ -4,23 +4,22 @@
 use mathlib.Core.Path.{_≡_, refl, ap, _∙_}
 use mathlib.Core.Bool.{Bool, true, false}
 use mathlib.Core.List.{List, _∷_}
-use mathlib.Core.Option.{Option, some, none}
 use Prim.Native.Nat.{ℕ, _≤_}
 use native.Mathlib.Omega.{arith}
 use lib.ListN.{length}
-use borrow.Author.Tests.{le-ltb, lt-leb}
+use borrow.Author.Tests.{le-ltb}
 use Rattle.model.specs.Basics.{choose, someOf, when, firstRefusal}
-use Rattle.model.specs.Sizes.{Sizes, Limits, accepts, tailSize, storeBytes, full}
-use Rattle.model.specs.State.{Byte, State, fresh}
+use Rattle.model.specs.Sizes.{Sizes, Limits, accepts, storeBytes, full}
+use Rattle.model.specs.State.{State, fresh}
 use Rattle.model.specs.Slot.{Call, oldestCell, arrivalUnknown, arrivalFull, requestUnknown, nothingToTake}
-use Rattle.model.specs.Slot.{leavesUncovered, tailFull, refusal, accept}
+use Rattle.model.specs.Slot.{leavesUncovered, refusal, accept}
 use Rattle.model.specs.Lists.{Step, stepOf, run}
 use Rattle.model.proofs.basics.FirstRefusal.{last-refusal}
 use Rattle.model.proofs.one_slot.Rules.{keeps-holds}
 use Rattle.model.proofs.one_slot.Accepted.{Judged, earlyRefusals, judged-facts}
 use Rattle.model.proofs.one_slot.Kept.{still-long}
 use Rattle.model.proofs.no_miss.Invariant.{oldest-covered}
-use Rattle.model.proofs.no_miss.Good.{Good, good-fresh, no-10, accept-good}
+use Rattle.model.proofs.no_miss.Good.{Good, good-fresh, no-9, no-10, accept-good}
 
 -- Some slot of the list passes the test.
 abbrev pub Reaches : Limits → (Step → Bool) → State → List ℕ → List Call → Type 0
@@ -46,19 +45,13 @@ storeAfter x store call = accept x store call .store
 -- What 4 to 7 let through.
 pub record Allowed (x : State) (call : Call) : Type 0 where
   pub not-4 : arrivalUnknown x (call .arrival) ≡ false
-  pub not-5 : arrivalFull x (call .arrival) ≡ false
+  pub not-5 : arrivalFull x (call .arrival) (call .request) ≡ false
   pub not-6 : requestUnknown x (call .request) ≡ false
   pub not-7 : nothingToTake x (call .arrival) (call .request) ≡ false
 
 module _ (limits : Limits) (s : Sizes) (x : State) (store : List ℕ) (ready : Ready limits s x store) where
   pub not-8 : leavesUncovered (oldestCell (x .cells)) x ≡ false
   not-8 = oldest-covered (x .phase) x (ready .good .kept .phase-ok) (ready .good .invariant)
-
-  not-9 : (arrival : Option Byte) → tailFull x arrival ≡ false
-  not-9 none = refl
-  not-9 (some y) =
-      lt-leb (tailSize (x .sizes)) (length (x .tail))
-      (omega (arith, ready .good .invariant .tail-light, ready .good .kept .phase-ok))
 
   module _ (call : Call) (allowed : Allowed x call) where
     early : firstRefusal (earlyRefusals (full limits) x store call) ≡ 0
@@ -71,7 +64,7 @@ module _ (limits : Limits) (s : Sizes) (x : State) (store : List ℕ) (ready : R
           allowed .not-6,
           allowed .not-7,
           not-8,
-          not-9 (call .arrival),
+          no-9 limits x store call (ready .good) (call .arrival) (call .request),
         )
 
     pub judged : Judged (full limits) x store call

@@ -2,7 +2,7 @@
 -- the next write make Q(b - 1) + b.
 use mathlib.Core.Path.{_≡_, refl, ap, subst}
 use mathlib.Core.Bool.{Bool, true, false}
-use mathlib.Core.List.{List, [], _∷_, _++_, append-assoc}
+use mathlib.Core.List.{List, [], _∷_, _++_, append-nil, append-assoc}
 use Prim.Native.Nat.{ℕ, zero, suc, _+_, _-_, _*_, _<_, _≤_}
 use native.Mathlib.Omega.{arith}
 use native.Mathlib.Nat.{mul-le-mul-right}
@@ -77,16 +77,22 @@ module _ (limits : Limits) (s : Sizes) (block : 1 ≤ s .b) (ring : 1 ≤ s .K)
     topping-on k = record {
       ready = ready-after limits s x store (v .ready) call allowed;
       phase-is = rw no-move (omega (arith, v .phase-is));
-      fill-is = rw no-move (omega (arith, v .fill-is, length-append (x .tail) (byte (lastQueue s i) 0 ∷ [])));
+      fill-is = omega (arith, v .fill-is, ap length tail-after, length-append (x .tail) (byte (lastQueue s i) 0 ∷ []));
       no-block = λ p h. rw no-move (v .no-block p h);
-      light = λ j h m. rw no-move
-          (light-on (leb 2 (s .K)) i j (s .b - 1) (x .tail) (omega (arith, h)) (v .light j (omega (arith, h)) m));
+      light = λ j h m. omega (
+        arith,
+        ap (countOf (lastQueue s j)) tail-after,
+        light-on (leb 2 (s .K)) i j (s .b - 1) (x .tail) (omega (arith, h)) (v .light j (omega (arith, h)) m),
+      );
     }
       where
         no-move : moves x ≡ false
         no-move =
             ne-eqb (x .phase) (x .sizes .b - 1)
             (λ e. omega (arith, e, k, v .phase-is, block-is limits s x store (v .ready)))
+
+        tail-after : stateAfter x store call .tail ≡ x .tail ++ (byte (lastQueue s i) 0 ∷ [])
+        tail-after = rw no-move (append-nil _)
 
     full-tail : suc i ≡ s .b → length (joined x call .tail) ≡ tailSize s
     full-tail e = omega (arith, e, v .fill-is, length-append (x .tail) (byte (lastQueue s i) 0 ∷ []))

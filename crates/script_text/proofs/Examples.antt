@@ -61,6 +61,27 @@ listing-leaves : scriptStore (listing .script) (replicate 5 0xff) ≡ (0x43 ∷ 
 unfolding scriptStore judge judgeFrom
 listing-leaves = refl
 
+-- Request 2.1: a full queue that is read and refilled in one slot, and the same without the first idle slot, where the
+-- block is in store and 5 comes as before.
+abbrev swapScriptAfter : List ℕ → List ℕ
+swapScriptAfter first =
+    0x10 ∷ 0x01 ∷ 0x02 ∷ 0x01 ∷ first
+    ++ (0x01 ∷ 0x00 ∷ 0x41 ∷ 0x01 ∷ 0x00 ∷ 0x42 ∷ 0x03 ∷ 0x00 ∷ 0x43 ∷ 0x00 ∷ 0x04 ∷ 0x04 ∷ 0x00 ∷ 0x05 ∷ [])
+
+abbrev swapScripts : List Example
+swapScripts =
+    example (swapScriptAfter (0x00 ∷ [])) 2 "D 5 0 65\nE 8\n" ∷
+    example (swapScriptAfter []) 2 "R 2 5\nE 6\n" ∷ []
+
+swap-scripts-print : AsPrinted swapScripts
+unfolding scriptLines judge judgeFrom decimal lineText
+swap-scripts-print = refl
+
+-- It leaves the block of 42 and 43, the byte that came in the slot of its request.
+swap-leaves : scriptStore (swapScriptAfter (0x00 ∷ [])) (replicate 3 0xff) ≡ (0x42 ∷ 0x43 ∷ 0xff ∷ [])
+unfolding scriptStore judge judgeFrom
+swap-leaves = refl
+
 -- "A script refusal prints only S n offset": an unknown command, operands cut short, a first command other than sizes,
 -- sizes again, bytes that run out where a command is due, bytes that follow the end. "At a command byte 12 comes before
 -- 14, 14 before 13."

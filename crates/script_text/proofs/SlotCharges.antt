@@ -74,7 +74,8 @@ module _ (design : Design) (x : State) (store : List ℕ) (call : Call) where
           (
             of-busy (arrivalUnknown x (call .arrival)) 4 (omega arith) (λ a r. ap (arrivalUnknown x) a),
             (
-              of-busy (arrivalFull x (call .arrival)) 5 (omega arith) (λ a r. ap (arrivalFull x) a),
+              of-busy (arrivalFull x (call .arrival) (call .request)) 5 (omega arith)
+                  (λ a r. ap (λ (o : Option Byte). arrivalFull x o (call .request)) a),
               (
                 of-busy (requestUnknown x (call .request)) 6 (omega arith) (λ a r. ap (requestUnknown x) r),
                 (
@@ -83,7 +84,8 @@ module _ (design : Design) (x : State) (store : List ℕ) (call : Call) where
                   (
                     of-idle (leavesUncovered (oldestCell (x .cells)) x) 8 (omega arith) (λ other. other .not-8 refl),
                     (
-                      of-busy (tailFull x (call .arrival)) 9 (omega arith) (λ a r. ap (tailFull x) a),
+                      of-busy (tailFull x (call .arrival) (call .request)) 9 (omega arith)
+                          (λ a r. ap (λ (o : Option Byte). tailFull x o (call .request)) a),
                       (
                         of-idle (headFull (wrote x call) (queueToRead (wrote x call))) 10 (omega arith)
                             (λ other. other .not-10 refl),

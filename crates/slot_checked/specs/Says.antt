@@ -49,4 +49,4 @@ pub record LeaveSays (regs : Regs) (m : Arrays) (counts : ByQueue) (store : List
 pub record PlanCheckedSays (x : State) (bytes : ℕ) (call : Call) (r : Plan) : Type 0 where
   pub number-is : (store : List ℕ) → length store ≡ bytes → r .number ≡ slot paper x store call .number
   pub decided : r .number ≡ 0 → (store : List ℕ) → length store ≡ bytes
-      → Decided x store call (r .owes) (chosenIn (r .written)) (chosenIn (r .read))
+      → Decided x store call (r .owes) (r .swaps) (chosenIn (r .written)) (chosenIn (r .read))

@@ -1,20 +1,24 @@
 -- The counts that a turn leaves are those of the state that the model's accepted slot leaves: each step changes the
 -- counts of the state as the turn changes the arrays.
-use mathlib.Core.Path.{_≡_, refl, ap, sym, _∙_, fun-ext}
-use mathlib.Core.Bool.{Bool}
+use mathlib.Core.Path.{_≡_, refl, ap, sym, _∙_, fun-ext, subst}
+use mathlib.Core.Bool.{Bool, true}
 use mathlib.Core.List.{List, [], _∷_}
 use mathlib.Core.Option.{Option, some, none}
-use Prim.Native.Nat.{ℕ}
+use Prim.Native.Nat.{ℕ, _+_, _≤_}
 use native.Mathlib.Omega.{arith}
+use lib.Dec.{eqb}
 use lib.ListN.{length, drop}
+use borrow.Author.Tests.{eqb-true}
 use Rattle.model.specs.Sizes.{paper}
-use Rattle.model.specs.State.{State, countOf, owes, ringOf, tailBytes}
+use Rattle.model.specs.State.{Byte, State, countOf, owes, ringOf, tailBytes}
 use Rattle.model.specs.Slot.{Call, arriving, isOwed, oldestCell, youngestCell, tailLeft, tailWritten, refusal, accept}
-use Rattle.model.specs.Slot.{blockAt, headRead, joined, asked, wrote, wroteStore, queueToWrite, queueToRead}
-use Rattle.model.proofs.basics.Tests.{by-test}
+use Rattle.model.specs.Slot.{swaps, earlyArrival, lateArrival, blockAt, headRead, joined, asked, wrote, wroteStore}
+use Rattle.model.specs.Slot.{queueToWrite, queueToRead}
+use Rattle.model.proofs.basics.Tests.{by-test, some-inj}
 use Rattle.model.proofs.basics.Bytes.{count-append, count-without, count-refilled}
 use Rattle.model.proofs.basics.Cells.{owed-append}
 use Rattle.model.proofs.one_slot.StepsKeepRules.{owed-oldest, count-head-without, youngest-owed, youngest-held}
+use Rattle.model.proofs.one_slot.Swap.{swap-facts, early-is-none, early-is, late-is, late-is-none}
 use Rattle.model.proofs.one_slot.Accepted.{accepted-facts}
 use Rattle.model.proofs.one_slot.Kept.{block-whole}
 use Rattle.layout.specs.Entries.{countsIn}
@@ -57,16 +61,59 @@ count-read z store (some p) f q =
     sym (count-refilled p q (z .head) (blockAt (z .sizes) store p (ringOf (z .rings) p .first))
     ∙ rw (f p refl))
 
+-- A byte that joins after the request counts as one that joins before it, where the request finds another.
+joins-late : (owing : Bool) (request : Option ℕ) (f g : ℕ → ℕ) → ((p : ℕ) → request ≡ some p → 1 ≤ f p)
+    → (q : ℕ) → lessTaken owing request (λ p. f p + g p) q ≡ lessTaken owing request f q + g q
+joins-late owing none f g there q = refl
+joins-late owing (some p) f g there q =
+    by-test owing
+    (λ u. rw u (omega arith))
+    (λ u. by-test (eqb p q)
+    (λ t. rw (u, t) (omega (arith, subst (λ (i : ℕ). 1 ≤ f i) (eqb-true p q t) (there p refl))))
+    (λ t. rw (u, t) (omega arith)))
+
 -- Tail bytes as the write finds them are those of the model's state after the request.
 pub tails-found : (x : State) (call : Call) {isOwed′ : Bool}
     → ((q : ℕ) → call .request ≡ some q → isOwed′ ≡ isOwed (joined x call) q)
     → {tails : ℕ → ℕ} → ((q : ℕ) → tails q ≡ tailBytes x q) → tailsAsked isOwed′ call tails ≡ tailBytes (asked x call)
 tails-found x call {isOwed′} owed-is {tails} same =
-    ap (lessTaken isOwed′ (call .request)) (fun-ext joined-count)
-    ∙ fun-ext (λ q. sym (count-left (joined x call) isOwed′ (call .request) owed-is q))
+    fun-ext (λ q. by-test (swaps x (call .arrival) (call .request))
+    (λ t. joins-late isOwed′ (call .request) tails (λ p. countOf p (arriving (call .arrival))) (byte-there t) q
+    ∙ ap (λ (f : ℕ → ℕ). lessTaken isOwed′ (call .request) f q + countOf q (arriving (call .arrival)))
+    (fun-ext (λ p. nothing-early t p ∙ joined-count p))
+    ∙ ap (λ (a : Option Byte). lessTaken isOwed′ (call .request) (tailBytes (joined x call)) q + countOf q (arriving a))
+    (sym (late-is x call t))
+    ∙ sym (asked-count q))
+    (λ t. ap (λ (a : Option Byte). lessTaken isOwed′ (call .request) (arrivalCounted a tails) q)
+    (sym (early-is x call t))
+    ∙ ap (λ (f : ℕ → ℕ). lessTaken isOwed′ (call .request) f q) (fun-ext joined-count)
+    ∙ omega (arith, asked-count q, ap (λ (a : Option Byte). countOf q (arriving a)) (late-is-none x call t))))
   where
-    joined-count : (q : ℕ) → arrivalCounted (call .arrival) tails q ≡ tailBytes (joined x call) q
-    joined-count q = omega (arith, same q, count-append q (x .tail) (arriving (call .arrival)))
+    joined-count : (q : ℕ) → arrivalCounted (earlyArrival x call) tails q ≡ tailBytes (joined x call) q
+    joined-count q = omega (arith, same q, count-append q (x .tail) (arriving (earlyArrival x call)))
+
+    asked-count : (q : ℕ) → tailBytes (asked x call) q
+        ≡ lessTaken isOwed′ (call .request) (tailBytes (joined x call)) q + countOf q (arriving (lateArrival x call))
+    asked-count q =
+        omega (
+          arith,
+          count-append q (tailLeft (joined x call) (call .request)) (arriving (lateArrival x call)),
+          count-left (joined x call) isOwed′ (call .request) owed-is q,
+        )
+
+    -- In a slot that swaps nothing joins early, and the request finds an old byte.
+    nothing-early : swaps x (call .arrival) (call .request) ≡ true → (q : ℕ)
+        → tails q ≡ arrivalCounted (earlyArrival x call) tails q
+    nothing-early t q = omega (arith, ap (λ (a : Option Byte). countOf q (arriving a)) (early-is-none x call t))
+
+    byte-there : swaps x (call .arrival) (call .request) ≡ true → (p : ℕ) → call .request ≡ some p → 1 ≤ tails p
+    byte-there t p e =
+        let s = swap-facts x call t in
+        omega (
+          arith,
+          same p,
+          subst (λ (i : ℕ). 1 ≤ tailBytes x i) (some-inj (s .comes .queue) p (sym (s .request-is) ∙ e)) (s .byte-there),
+        )
 
 module _ (x : State) (store : List ℕ) (call : Call) (accepted : refusal paper x store call ≡ 0)
     {counts counts′ : ByQueue} (t : Tallies x counts)

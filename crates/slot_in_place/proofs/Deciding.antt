@@ -10,12 +10,14 @@ use lib.ListN.{length, getD}
 use Rattle.model.specs.Basics.{choose}
 use Rattle.model.specs.Sizes.{paper, lookahead}
 use Rattle.model.specs.State.{Byte, Cell, owed, State, countOf, owes, owedOf}
-use Rattle.model.specs.Slot.{Call, oldestCell, arriving, isOwed, joined, asked, wrote, queueToWrite}
+use Rattle.model.specs.Slot.{Call, oldestCell, arriving, isOwed, swaps, earlyArrival, joined, asked, wrote}
+use Rattle.model.specs.Slot.{queueToWrite}
 use Rattle.model.specs.Slot.{queueToRead, refusal, accept}
 use Rattle.model.proofs.basics.Tests.{eqb-same}
 use Rattle.model.proofs.basics.Bytes.{count-append}
 use Rattle.model.proofs.basics.Cells.{owed-below}
 use Rattle.model.proofs.one_slot.StepsKeepRules.{owed-oldest}
+use Rattle.model.proofs.one_slot.Swap.{early-few}
 use Rattle.model.proofs.one_slot.Accepted.{Judged, accepted-facts}
 use Rattle.model.proofs.one_slot.Kept.{read-taken, rules-written}
 use Rattle.model.proofs.delay.IdealSlot.{held-before}
@@ -31,7 +33,7 @@ use Rattle.slot_counts.proofs.Kept.{tails-found, tallies-kept}
 use Rattle.slot_plan.specs.declared.Plan.{Plan}
 use Rattle.slot_plan.specs.Says.{writeNow, PlanSays}
 use Rattle.slot_plan.proofs.Writes.{write-has-block}
-use Rattle.slot_plan.proofs.PaperPlan.{plan-refusal, plan-owes, plan-written, plan-read}
+use Rattle.slot_plan.proofs.PaperPlan.{plan-refusal, plan-owes, plan-swaps, plan-written, plan-read}
 use Rattle.slot_steps.proofs.Moving.{oldest-cell}
 use Rattle.slot_in_place.specs.Says.{Decided, Ready}
 use Rattle.slot_in_place.proofs.Compose.{uncovered-owed}
@@ -67,6 +69,9 @@ module _ {regs : Regs} {m : Arrays} {counts : ByQueue} {store : List ℕ} (r : R
 
         pub owed-is : (q : ℕ) → call .request ≡ some q → plan .owes ≡ isOwed (joined x call) q
         owed-is q s = by-figures .owes-is none ∙ plan-owes x store call accepted q s
+
+        pub swaps-is : plan .swaps ≡ swaps x (call .arrival) (call .request)
+        swaps-is = by-figures .swaps-is none ∙ plan-swaps x store call (r .kept)
 
         pub read-is : chosenIn (plan .read) ≡ queueToRead (wrote x call)
         read-is = by-figures .read-is none ∙ plan-read x store call accepted
@@ -105,7 +110,7 @@ module _ {regs : Regs} {m : Arrays} {counts : ByQueue} {store : List ℕ} (r : R
 
         pub arrival-there : (y : Byte) → call .arrival ≡ some y → y .queue < queuePlaces
         arrival-there y s =
-            omega (arith, judged .arrival-ok y s .0, standing.limits r .q-high)
+            omega (arith, judged .arrival-known y s, standing.limits r .q-high)
 
         pub request-there : (q : ℕ) → call .request ≡ some q → q < queuePlaces
         request-there q s =
@@ -118,7 +123,8 @@ module _ {regs : Regs} {m : Arrays} {counts : ByQueue} {store : List ℕ} (r : R
               arith,
               judged .byte-there q s
                   (held-before paper x store call (omega arith) judged q (sym (owed-is q s) ∙ f)),
-              count-append q (x .tail) (arriving (call .arrival)),
+              count-append q (x .tail) (arriving (earlyArrival x call)),
+              early-few x call q,
               r .tallies .tails-are .count-is q,
             )
 
@@ -140,8 +146,14 @@ module _ {regs : Regs} {m : Arrays} {counts : ByQueue} {store : List ℕ} (r : R
               standing.limits r .q-high,
             )
 
-        pub decided : Decided x store call (plan .owes) (chosenIn (plan .written)) (chosenIn (plan .read))
-        decided = record { accepted = accepted; owed-is = owed-is; written-is = written-is; read-is = read-is }
+        pub decided : Decided x store call (plan .owes) (plan .swaps) (chosenIn (plan .written)) (chosenIn (plan .read))
+        decided = record {
+          accepted = accepted;
+          owed-is = owed-is;
+          swaps-is = swaps-is;
+          written-is = written-is;
+          read-is = read-is;
+        }
 
         -- The counts, turned, are those of the state that the slot leaves.
         pub counted : {counts′ : ByQueue}

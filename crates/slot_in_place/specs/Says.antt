@@ -7,8 +7,8 @@ use Prim.Native.Nat.{ℕ, _≤_}
 use lib.ListN.{length}
 use Rattle.model.specs.Sizes.{paper, storeBytes}
 use Rattle.model.specs.State.{State, keeps}
-use Rattle.model.specs.Slot.{Call, delivery, isOwed, joined, asked, wrote, wroteStore, queueToWrite, queueToRead}
-use Rattle.model.specs.Slot.{refusal, Answer, accept, slot}
+use Rattle.model.specs.Slot.{Call, delivery, isOwed, swaps, joined, asked, wrote, wroteStore, queueToWrite}
+use Rattle.model.specs.Slot.{queueToRead, refusal, Answer, accept, slot}
 use Rattle.layout.specs.Calls.{chosenIn, deliveryIn}
 use Rattle.layout.specs.declared.Regs.{Regs}
 use Rattle.layout.specs.Views.{Arrays, Long, stateIn, sizesIn}
@@ -16,12 +16,13 @@ use Rattle.layout.specs.Counts.{ByQueue, Tallies}
 use Rattle.slot_in_place.specs.declared.Carried.{Carried}
 use Rattle.slot_in_place.specs.declared.Advanced.{Advanced}
 
--- What is decided before anything moves: the slot is accepted, whether its request takes an Owed cell, the queues that
--- it writes and reads.
-pub record Decided (x : State) (store : List ℕ) (call : Call) (isOwed′ : Bool) (written readQueue : Option ℕ)
+-- What is decided before anything moves: the slot is accepted, whether its request takes an Owed cell, whether it takes
+-- its request before its arrival, the queues that it writes and reads.
+pub record Decided (x : State) (store : List ℕ) (call : Call) (isOwed′ swaps′ : Bool) (written readQueue : Option ℕ)
     : Type 0 where
   pub accepted : refusal paper x store call ≡ 0
   pub owed-is : (q : ℕ) → call .request ≡ some q → isOwed′ ≡ isOwed (joined x call) q
+  pub swaps-is : swaps′ ≡ swaps x (call .arrival) (call .request)
   pub written-is : written ≡ queueToWrite (asked x call)
   pub read-is : readQueue ≡ queueToRead (wrote x call)
 

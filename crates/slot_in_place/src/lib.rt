@@ -31,13 +31,14 @@ pub fn carry(
     arrival: Arrival,
     request: Request,
     owes: bool,
+    swaps: bool,
     written: Chosen,
     read: Chosen,
     store: &mut [u8],
 ) -> Carried
     requires { ⌜ Long (given tail head cells firsts stored)
         × Decided (stateIn regs (given tail head cells firsts stored)) (now store)
-        (callIn arrival request) owes (chosenIn written) (chosenIn read) ⌝ }
+        (callIn arrival request) owes swaps (chosenIn written) (chosenIn read) ⌝ }
     ensures { λ r. ⌜ CarrySays
         (stateIn regs (found tail head cells firsts stored))
         (now (store .entry)) (callIn arrival request) r
@@ -47,15 +48,18 @@ pub fn carry(
     // 1. The oldest cell leaves: its byte is fixed before anything else.
     let cell = cells[0];
     let gave = slot_steps::deliver(head, regs.head_fill, cell);
-    // 2. The arriving byte joins the tail.
-    let joined = slot_steps::arrive(tail, regs.tail_fill, arrival);
+    // 2. The arriving byte joins the tail, or waits for the request to make room.
+    let early = slot_plan::early_arrival(swaps, arrival);
+    let joined = slot_steps::arrive(tail, regs.tail_fill, early);
     // 3. The request takes the youngest cell.
     let asked = slot_steps::ask(tail, joined, owes, request);
     lookahead::shift(cells, regs.queues * (regs.block - 1) + 1, asked.cell);
+    let late = slot_plan::late_arrival(swaps, arrival);
+    let filled = slot_steps::arrive(tail, asked.fill, late);
     // 4. The two moves, where a queue is chosen.
-    let tail_fill = slot_steps::write(tail, firsts, stored, regs, asked.fill, written, store);
+    let tail_fill = slot_steps::write(tail, firsts, stored, regs, filled, written, store);
     let head_fill = slot_steps::read(head, firsts, stored, regs, gave.fill, read, store);
-    // 5. The phase. The marks rise with the fills.
+    // 5. The phase. The marks rise with the fills; a late arrival fills the place that the request has left.
     let phase = slot_steps::next_phase(regs.phase, regs.block);
     let tail_mark = minmax::larger(regs.tail_mark, joined);
     let head_mark = minmax::larger(regs.head_mark, head_fill);
@@ -124,6 +128,7 @@ pub fn advance(
         };
     }
     let owes = plan.owes;
+    let swaps = plan.swaps;
     let written = plan.written;
     let read = plan.read;
     let cell = cells[0];
@@ -149,6 +154,7 @@ pub fn advance(
         arrival,
         request,
         owes,
+        swaps,
         written,
         read,
         store,

@@ -1,34 +1,36 @@
 -- The plan of a slot is the paper's: what is judged by figures before anything moves is what the steps find on their
 -- way. An Owed cell that leaves takes a head byte with it, so that a request is Owed before and after alike.
-use mathlib.Core.Path.{_≡_, refl, ap, sym, _∙_, fun-ext}
+use mathlib.Core.Path.{_≡_, refl, ap, sym, _∙_, fun-ext, subst}
 use mathlib.Core.Bool.{Bool, true, false, _&&_, not}
 use mathlib.Core.List.{List, [], _∷_, _++_}
 use mathlib.Core.Option.{Option, some, none}
 use Prim.Native.Nat.{ℕ, zero, suc, _+_, _-_, _*_, _≤_}
 use native.Mathlib.Omega.{arith}
-use lib.Dec.{eqb, ltb}
+use lib.Dec.{eqb, ltb, leb}
 use lib.ListN.{length, drop}
-use borrow.Author.Tests.{eqb-false, ltb-true, ltb-false, lt-ltb, le-ltb, lt-leb, ne-eqb}
+use borrow.Author.Tests.{eqb-true, eqb-false, ltb-true, ltb-false, lt-ltb, le-ltb, lt-leb, ne-eqb}
 use Rattle.model.specs.Basics.{choose, update, when, firstRefusal}
-use Rattle.model.specs.Sizes.{headSize, storeBytes, paper}
+use Rattle.model.specs.Sizes.{tailSize, headSize, storeBytes, paper}
 use Rattle.model.specs.State.{Byte, Cell, empty, held, owed, State, countOf, tailBytes, headBytes, owedCells, blocks}
 use Rattle.model.specs.State.{keeps}
 use Rattle.model.specs.Slot.{Call, oldestOf, oldestCell, headWithout, afterDelivery, arriving, isOwed, heldCell}
 use Rattle.model.specs.Slot.{youngestCell, moves, refillQueue, queueToWrite, queueToRead, joined, asked, wrote}
-use Rattle.model.specs.Slot.{arrivalUnknown, arrivalFull}
+use Rattle.model.specs.Slot.{swapTests, swaps, arrivalUnknown, arrivalFull}
 use Rattle.model.specs.Slot.{requestUnknown, nothingToTake, leavesUncovered, tailFull, headFull, refusal}
 use Rattle.model.proofs.basics.Tests.{by-test, positive}
-use Rattle.model.proofs.basics.Bytes.{count-append, count-one-other, length-without}
-use Rattle.model.proofs.one_slot.StepsKeepRules.{count-head-without}
-use Rattle.model.proofs.delay.Delivery.{owed-after-delivery}
+use Rattle.model.proofs.basics.AllOf.{all-true-not}
+use Rattle.model.proofs.basics.Bytes.{count-append, count-one-other, count-past, length-without}
+use Rattle.model.proofs.one_slot.Rules.{keeps-facts}
+use Rattle.model.proofs.one_slot.StepsKeepRules.{count-head-without, owed-after-delivery}
+use Rattle.model.proofs.one_slot.Swap.{length-found}
 use Rattle.model.proofs.one_slot.Accepted.{Judged, judged-facts, early-none}
 use Rattle.lookahead.specs.Says.{spent}
 use Rattle.layout.specs.Figures.{figuresOf, newCell}
 use Rattle.slot_counts.specs.Says.{tailsAsked}
 use Rattle.slot_counts.proofs.Kept.{tails-found}
-use Rattle.slot_refusals.specs.Says.{arrivalNumber, owesNow, arrivesAt, requestNumber, leavingNumber, tailNumber}
-use Rattle.slot_refusals.specs.Says.{earlyNumber, takesByte, fullNow}
-use Rattle.slot_plan.specs.Says.{writeNow, readNow}
+use Rattle.slot_refusals.specs.Says.{owesNow, arrivesAt, swapTestsNow, swapsNow, arrivalNumber, requestNumber}
+use Rattle.slot_refusals.specs.Says.{leavingNumber, tailNumber, earlyNumber, takesByte, fullNow}
+use Rattle.slot_plan.specs.Says.{writeNow, readNow, swapsOf}
 
 -- The first refusal of parts: a part stands for its list, and what follows counts only where the list has none.
 first-of-part : (ms ns : List ℕ) → firstRefusal (firstRefusal ms ∷ ns) ≡ firstRefusal (ms ++ ns)
@@ -42,6 +44,34 @@ first-after [] ns ns′ h = h refl
 first-after (zero ∷ ms) ns ns′ h = first-after ms ns ns′ h
 first-after (suc m ∷ ms) ns ns′ h = refl
 
+-- Whether the slot swaps: the same tests, and a queue past the last has no tail byte in a state that keeps the rules.
+module _ (x : State) (kept : keeps paper x ≡ true) where
+  swaps-of-same : (y : Byte)
+      → swapsNow (figuresOf x) (owesNow (figuresOf x) (some (y .queue))) (some y) (some (y .queue))
+      ≡ swaps x (some y) (some (y .queue))
+  swaps-of-same y =
+      by-test (ltb (y .queue) (x .sizes .Q))
+      (λ t. rw (t, lt-leb (x .sizes .Q) (y .queue) (ltb-true (y .queue) (x .sizes .Q) t)))
+      (λ t. all-true-not
+      (swapTestsNow (figuresOf x) (owesNow (figuresOf x) (some (y .queue))) y (some (y .queue))) 0 t
+      ∙ sym (all-true-not (swapTests x y (y .queue)) 3 (no-byte (ltb-false (y .queue) (x .sizes .Q) t))))
+    where
+      no-byte : x .sizes .Q ≤ y .queue → ltb 0 (tailBytes x (y .queue)) ≡ false
+      no-byte l =
+          ap (ltb 0) (count-past (x .sizes .Q) (x .tail) (y .queue) (keeps-facts paper x kept .within .tail-below) l)
+
+  swaps-as-paper : (arrival : Option Byte) (request : Option ℕ)
+      → swapsNow (figuresOf x) (owesNow (figuresOf x) request) arrival request ≡ swaps x arrival request
+  swaps-as-paper none none = refl
+  swaps-as-paper none (some q) = refl
+  swaps-as-paper (some y) none = all-true-not (swapTestsNow (figuresOf x) false y none) 2 refl
+  swaps-as-paper (some y) (some q) =
+      by-test (eqb q (y .queue))
+      (λ t. subst (λ (p : ℕ). swapsNow (figuresOf x) (owesNow (figuresOf x) (some p)) (some y) (some p)
+      ≡ swaps x (some y) (some p)) (sym (eqb-true q (y .queue) t)) (swaps-of-same y))
+      (λ t. all-true-not (swapTestsNow (figuresOf x) (owesNow (figuresOf x) (some q)) y (some q)) 2 t
+      ∙ sym (all-true-not (swapTests x y q) 1 t))
+
 -- 4 and 5.
 two-tests : (s t : Bool) (m n : ℕ) → choose s (suc m) (when t (suc n))
     ≡ firstRefusal (when s (suc m) ∷ when t (suc n) ∷ [])
@@ -49,11 +79,11 @@ two-tests true t m n = refl
 two-tests false true m n = refl
 two-tests false false m n = refl
 
-arrival-as-paper : (x : State) (arrival : Option Byte)
-    → arrivalNumber (figuresOf x) arrival
-    ≡ firstRefusal (when (arrivalUnknown x arrival) 4 ∷ when (arrivalFull x arrival) 5 ∷ [])
-arrival-as-paper x none = refl
-arrival-as-paper x (some y) = two-tests (arrivalUnknown x (some y)) (arrivalFull x (some y)) 3 4
+arrival-as-paper : (x : State) (arrival : Option Byte) (request : Option ℕ)
+    → arrivalNumber (figuresOf x) (swaps x arrival request) arrival
+    ≡ firstRefusal (when (arrivalUnknown x arrival) 4 ∷ when (arrivalFull x arrival request) 5 ∷ [])
+arrival-as-paper x none request = refl
+arrival-as-paper x (some y) request = two-tests (arrivalUnknown x (some y)) (arrivalFull x (some y) request) 3 4
 
 -- 6 and 7: the arrival is counted as its queue is compared.
 none-with-arrival : (q : ℕ) (tail : List Byte) (arrival : Option Byte)
@@ -93,14 +123,17 @@ leaving-as-paper x empty = refl
 leaving-as-paper x (held q v) = refl
 leaving-as-paper x (owed q) = refl
 
-tail-as-paper : (x : State) (arrival : Option Byte)
-    → tailNumber (x .sizes) (length (x .tail)) arrival ≡ when (tailFull x arrival) 9
-tail-as-paper x none = refl
-tail-as-paper x (some y) = refl
+tail-as-paper : (x : State) (arrival : Option Byte) (request : Option ℕ)
+    → tailNumber (x .sizes) (length (x .tail)) (swaps x arrival request) arrival
+    ≡ when (tailFull x arrival request) 9
+tail-as-paper x none request = refl
+tail-as-paper x (some y) request =
+    ap (λ (n : ℕ). when (leb (tailSize (x .sizes)) n) 9) (sym (length-found x (some y) request))
 
 -- 4 to 9 in the paper's order.
 abbrev arrivalRefusals : State → Call → List ℕ
-arrivalRefusals x call = when (arrivalUnknown x (call .arrival)) 4 ∷ when (arrivalFull x (call .arrival)) 5 ∷ []
+arrivalRefusals x call =
+    when (arrivalUnknown x (call .arrival)) 4 ∷ when (arrivalFull x (call .arrival) (call .request)) 5 ∷ []
 
 abbrev requestRefusals : State → Call → List ℕ
 requestRefusals x call =
@@ -108,20 +141,22 @@ requestRefusals x call =
 
 abbrev otherRefusals : State → Call → List ℕ
 otherRefusals x call =
-    when (leavesUncovered (oldestCell (x .cells)) x) 8 ∷ when (tailFull x (call .arrival)) 9 ∷ []
+    when (leavesUncovered (oldestCell (x .cells)) x) 8 ∷ when (tailFull x (call .arrival) (call .request)) 9 ∷ []
 
 abbrev fourToNine : State → Call → List ℕ
 fourToNine x call = arrivalRefusals x call ++ requestRefusals x call ++ otherRefusals x call
 
-early-as-paper : (x : State) (call : Call)
-    → earlyNumber (figuresOf x) (owesNow (figuresOf x) (call .request)) (oldestCell (x .cells)) call
+early-as-paper : (x : State) → keeps paper x ≡ true → (call : Call)
+    → earlyNumber (figuresOf x) (owesNow (figuresOf x) (call .request)) (swapsOf (figuresOf x) call)
+    (oldestCell (x .cells)) call
     ≡ firstRefusal (fourToNine x call)
-early-as-paper x call =
+early-as-paper x kept call =
     rw (
-      arrival-as-paper x (call .arrival),
+      swaps-as-paper x kept (call .arrival) (call .request),
+      arrival-as-paper x (call .arrival) (call .request),
       request-as-paper x (call .arrival) (call .request),
       leaving-as-paper x (oldestCell (x .cells)),
-      tail-as-paper x (call .arrival),
+      tail-as-paper x (call .arrival) (call .request),
     )
     (first-of-part (arrivalRefusals x call) (firstRefusal (requestRefusals x call) ∷ otherRefusals x call)
     ∙ first-after (arrivalRefusals x call) (firstRefusal (requestRefusals x call) ∷ otherRefusals x call)
@@ -209,13 +244,14 @@ passed keeping short ns e f = rw (e, f)
 module _ (x : State) (store : List ℕ) (call : Call) where
   pub plan-refusal : keeps paper x ≡ true → storeBytes (x .sizes) ≤ length store
       → firstRefusal (
-      earlyNumber (figuresOf x) (owesNow (figuresOf x) (call .request)) (oldestCell (x .cells)) call ∷
+      earlyNumber (figuresOf x) (owesNow (figuresOf x) (call .request)) (swapsOf (figuresOf x) call)
+      (oldestCell (x .cells)) call ∷
       when (fullNow (x .sizes) (length (x .head)) (oldestCell (x .cells))
       (readNow (x .phase) (x .sizes) (headBytes x) (x .cells) (owesNow (figuresOf x) (call .request))
       (call .request))) 10 ∷ [])
       ≡ refusal paper x store call
   plan-refusal kept long =
-      ap (λ (n : ℕ). firstRefusal (n ∷ when full-before 10 ∷ [])) (early-as-paper x call)
+      ap (λ (n : ℕ). firstRefusal (n ∷ when full-before 10 ∷ [])) (early-as-paper x kept call)
       ∙ first-of-part (fourToNine x call) (when full-before 10 ∷ [])
       ∙ first-after (fourToNine x call) (when full-before 10 ∷ []) (when full-then 10 ∷ [])
       (λ e. ap (λ (t : Bool). firstRefusal (when t 10 ∷ [])) (full-same (judged e)))
@@ -250,6 +286,9 @@ module _ (x : State) (store : List ℕ) (call : Call) where
   pub plan-owes : refusal paper x store call ≡ 0 → (q : ℕ) → call .request ≡ some q
       → owesNow (figuresOf x) (call .request) ≡ isOwed (joined x call) q
   plan-owes e = owes-alike x store call (judged-none e)
+
+  pub plan-swaps : keeps paper x ≡ true → swapsOf (figuresOf x) call ≡ swaps x (call .arrival) (call .request)
+  plan-swaps kept = swaps-as-paper x kept (call .arrival) (call .request)
 
   pub plan-read : refusal paper x store call ≡ 0
       → readNow (x .phase) (x .sizes) (headBytes x) (x .cells) (owesNow (figuresOf x) (call .request)) (call .request)

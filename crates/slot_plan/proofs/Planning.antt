@@ -23,9 +23,8 @@ use Rattle.layout.specs.Figures.{Figures, figuresIn}
 use Rattle.slot_counts.specs.Says.{arrivalCounted, tailsAsked}
 use Rattle.slot_plan.specs.declared.Plan.{Plan}
 use Rattle.slot_refusals.specs.Says.{arrivalNumber, arrivesAt, requestNumber, leavingNumber, tailNumber, owesNow}
-use Rattle.slot_refusals.specs.Says.{earlyNumber}
-use Rattle.slot_refusals.specs.Says.{fullNow}
-use Rattle.slot_plan.specs.Says.{writeNow, readNow, PlanSays}
+use Rattle.slot_refusals.specs.Says.{swapsNow, earlyNumber, EarlySays, fullNow}
+use Rattle.slot_plan.specs.Says.{writeNow, readNow, swapsOf, PlanSays}
 use Rattle.slot_refusals.proofs.Firsts.{first-here}
 
 -- A request that takes an Owed cell is of a queue below the last.
@@ -37,8 +36,9 @@ owes-below f q e =
 
 -- 4 and 6 ruled out: the queue is below the last. 7 ruled out: a request that takes a tail byte finds one, this slot's
 -- arrival counted.
-arrival-below : (f : Figures) (y : Byte) → arrivalNumber f (some y) ≡ 0 → y .queue < f .sizes .Q
-arrival-below f y e =
+arrival-below : (f : Figures) (swapping : Bool) (y : Byte) → arrivalNumber f swapping (some y) ≡ 0
+    → y .queue < f .sizes .Q
+arrival-below f swapping y e =
     by-test (leb (f .sizes .Q) (y .queue))
     (λ t. absurd (omega (arith, rw t at e)))
     (λ t. leb-false (f .sizes .Q) (y .queue) t)
@@ -66,34 +66,43 @@ owes-without-tails : (regs : Regs) (tails heads owing stored : List ℕ) (reques
 owes-without-tails regs tails heads owing stored none = refl
 owes-without-tails regs tails heads owing stored (some q) = refl
 
+-- Whether the slot swaps needs no Owed cells, where it is known whether the request takes one.
+swaps-without-owed : (regs : Regs) (tails heads owing stored : List ℕ) (owes : Bool) (arrival : Option Byte)
+    (request : Option ℕ) → swapsNow (figuresIn regs (byQueue tails heads []) stored) owes arrival request
+    ≡ swapsNow (figuresIn regs (byQueue tails heads owing) stored) owes arrival request
+swaps-without-owed regs tails heads owing stored owes none request = refl
+swaps-without-owed regs tails heads owing stored owes (some y) request = refl
+
 -- 4 to 9 need no Owed cells.
-abbrev numbers : Figures → Bool → Cell → Option Byte → Option ℕ → List ℕ
-numbers f owes cell arrival request =
-    arrivalNumber f arrival ∷
+abbrev numbers : Figures → Bool → Bool → Cell → Option Byte → Option ℕ → List ℕ
+numbers f owes swapping cell arrival request =
+    arrivalNumber f swapping arrival ∷
     requestNumber f owes arrival request ∷
     leavingNumber (f .heads) cell ∷
-    tailNumber (f .sizes) (f .fill) arrival ∷ []
+    tailNumber (f .sizes) (f .fill) swapping arrival ∷ []
 
-early-without-owed : (regs : Regs) (tails heads owing stored : List ℕ) (owes : Bool) (cell : Cell)
+early-without-owed : (regs : Regs) (tails heads owing stored : List ℕ) (owes swapping : Bool) (cell : Cell)
     (arrival : Option Byte) (request : Option ℕ)
-    → firstRefusal (numbers (figuresIn regs (byQueue tails heads []) stored) owes cell arrival request)
-    ≡ firstRefusal (numbers (figuresIn regs (byQueue tails heads owing) stored) owes cell arrival request)
-early-without-owed regs tails heads owing stored owes cell none none = refl
-early-without-owed regs tails heads owing stored owes cell none (some q) = refl
-early-without-owed regs tails heads owing stored owes cell (some y) none = refl
-early-without-owed regs tails heads owing stored owes cell (some y) (some q) = refl
+    → firstRefusal (numbers (figuresIn regs (byQueue tails heads []) stored) owes swapping cell arrival request)
+    ≡ firstRefusal (numbers (figuresIn regs (byQueue tails heads owing) stored) owes swapping cell arrival request)
+early-without-owed regs tails heads owing stored owes swapping cell none none = refl
+early-without-owed regs tails heads owing stored owes swapping cell none (some q) = refl
+early-without-owed regs tails heads owing stored owes swapping cell (some y) none = refl
+early-without-owed regs tails heads owing stored owes swapping cell (some y) (some q) = refl
 
--- What the code has found: the oldest cell, whether the request takes an Owed cell, the first of 4 to 9.
+-- What the code has found: the oldest cell, whether the request takes an Owed cell, whether the slot swaps, the first
+-- of 4 to 9.
 module _ (regs : Regs) (tails heads owing stored : List ℕ) (cells : List Cell) (call : Call)
     {cell : Cell} (cell-is : oldestCell cells ≡ cell)
     {owes : Bool} (owes-is : owes ≡ owesNow (figuresIn regs (byQueue [] heads owing) stored) (call .request))
-    {number : ℕ}
-    (number-is : number ≡ earlyNumber (figuresIn regs (byQueue tails heads []) stored) owes cell call) where
+    {number : ℕ} {swapping : Bool}
+    (judged : EarlySays (figuresIn regs (byQueue tails heads []) stored) owes cell call number swapping) where
   abbrev f : Figures
   f = figuresIn regs (byQueue tails heads owing) stored
 
   abbrev early-numbers : List ℕ
-  early-numbers = numbers (figuresIn regs (byQueue tails heads []) stored) owes cell (call .arrival) (call .request)
+  early-numbers =
+      numbers (figuresIn regs (byQueue tails heads []) stored) owes swapping cell (call .arrival) (call .request)
 
   -- Where it is none, a leaving Owed cell has a head byte, and an Owed cell is taken by a queue below the last.
   pub leaving-has-byte : number ≡ 0 → (q : ℕ) → cell ≡ owed q → 1 ≤ countsIn heads q
@@ -103,7 +112,7 @@ module _ (regs : Regs) (tails heads owing stored : List ℕ) (cells : List Cell)
     where
       none-leaving : leavingNumber (countsIn heads) cell ≡ 0
       none-leaving =
-          no-refusal-at early-numbers 2 (sym number-is ∙ e)
+          no-refusal-at early-numbers 2 (sym (judged .number-is) ∙ e)
 
   pub owes-known : (q : ℕ) → call .request ≡ some q → owes ≡ true → q < regs .queues
   owes-known q e t =
@@ -112,9 +121,9 @@ module _ (regs : Regs) (tails heads owing stored : List ℕ) (cells : List Cell)
 
   -- Then the arrival's queue is below the last, and a request that takes a tail byte is of such a queue and finds one.
   pub arrival-known : number ≡ 0 → (y : Byte) → call .arrival ≡ some y → y .queue < regs .queues
-  arrival-known e y is = arrival-below (figuresIn regs (byQueue tails heads []) stored) y
-      (ap (arrivalNumber (figuresIn regs (byQueue tails heads []) stored)) (sym is)
-      ∙ no-refusal-at early-numbers 0 (sym number-is ∙ e))
+  arrival-known e y is = arrival-below (figuresIn regs (byQueue tails heads []) stored) swapping y
+      (ap (arrivalNumber (figuresIn regs (byQueue tails heads []) stored) swapping) (sym is)
+      ∙ no-refusal-at early-numbers 0 (sym (judged .number-is) ∙ e))
 
   pub byte-known : number ≡ 0 → (q : ℕ) → call .request ≡ some q → owes ≡ false
       → (q < regs .queues) × (1 ≤ arrivalCounted (call .arrival) (countsIn tails) q)
@@ -123,23 +132,29 @@ module _ (regs : Regs) (tails heads owing stored : List ℕ) (cells : List Cell)
       (ap (λ (o : Bool). requestNumber (figuresIn regs (byQueue tails heads []) stored) o (call .arrival) (some q))
       (sym t)
       ∙ ap (requestNumber (figuresIn regs (byQueue tails heads []) stored) owes (call .arrival)) (sym is)
-      ∙ no-refusal-at early-numbers 1 (sym number-is ∙ e))
+      ∙ no-refusal-at early-numbers 1 (sym (judged .number-is) ∙ e))
 
   -- The same by all figures.
   abbrev toRead : Option ℕ
   toRead = readNow (regs .phase) (sizesIn regs) (countsIn heads) cells (owesNow f (call .request)) (call .request)
 
   abbrev early : ℕ
-  early = earlyNumber f (owesNow f (call .request)) (oldestCell cells) call
+  early = earlyNumber f (owesNow f (call .request)) (swapsOf f call) (oldestCell cells) call
 
   owes-found : owes ≡ owesNow f (call .request)
   owes-found = owes-is ∙ owes-without-tails regs tails heads owing stored (call .request)
 
+  swaps-found : swapping ≡ swapsOf f call
+  swaps-found =
+      judged .swaps-is
+      ∙ swaps-without-owed regs tails heads owing stored owes (call .arrival) (call .request)
+      ∙ ap (λ (o : Bool). swapsNow f o (call .arrival) (call .request)) owes-found
+
   early-found : number ≡ early
   early-found =
-      number-is
-      ∙ early-without-owed regs tails heads owing stored owes cell (call .arrival) (call .request)
-      ∙ rw (cell-is, ← owes-found)
+      judged .number-is
+      ∙ early-without-owed regs tails heads owing stored owes swapping cell (call .arrival) (call .request)
+      ∙ rw (cell-is, ← swaps-found, ← owes-found)
 
   -- The three outcomes.
   abbrev Says : Plan → Type 0
@@ -152,6 +167,7 @@ module _ (regs : Regs) (tails heads owing stored : List ℕ) (cells : List Cell)
         ∙ first-here early (when (fullNow (sizesIn regs) (regs .«head_fill») (oldestCell cells) toRead) 10 ∷ [])
         (λ z. n (early-found ∙ z));
     owes-is = λ z. absurd (n (sym e ∙ z));
+    swaps-is = λ z. absurd (n (sym e ∙ z));
     written-is = λ z. absurd (n (sym e ∙ z));
     read-is = λ z. absurd (n (sym e ∙ z));
   }
@@ -177,16 +193,18 @@ module _ (regs : Regs) (tails heads owing stored : List ℕ) (cells : List Cell)
     refused-full t {r} e = record {
       number-is = rw (no-early, ← full-found, t) e;
       owes-is = λ z. absurd (omega (arith, e, z));
+      swaps-is = λ z. absurd (omega (arith, e, z));
       written-is = λ z. absurd (omega (arith, e, z));
       read-is = λ z. absurd (omega (arith, e, z));
     }
 
     pub plan-accepted : full ≡ false → (written : Chosen)
         → chosenIn written ≡ writeNow (regs .phase) (sizesIn regs) (tailsAsked owes call (countsIn tails))
-        → Says (record { number = 0; owes = owes; written = written; read = read })
+        → Says (record { number = 0; owes = owes; swaps = swapping; written = written; read = read })
     plan-accepted t written written-is = record {
       number-is = rw (no-early, ← full-found, t);
       owes-is = λ z. owes-found;
+      swaps-is = λ z. swaps-found;
       written-is = λ z. written-is ∙ rw owes-found;
       read-is = λ z. read-found;
     }

@@ -15,7 +15,7 @@ use Rattle.layout.specs.Calls.{chosenIn}
 use Rattle.layout.specs.Figures.{Figures, newCell}
 use Rattle.lookahead.specs.Says.{spent}
 use Rattle.slot_counts.specs.Says.{tailsAsked}
-use Rattle.slot_refusals.specs.Says.{owesNow, earlyNumber, fullNow}
+use Rattle.slot_refusals.specs.Says.{owesNow, swapsNow, earlyNumber, fullNow}
 use Rattle.slot_plan.specs.declared.Plan.{Plan}
 
 -- The queue that the slot will write, by the tail bytes that its write finds.
@@ -29,14 +29,19 @@ readNow phase s heads cells owing request =
     (refillQueue (spent heads (oldestCell cells)) (drop 1 cells ++ newCell owing request ∷ []))
     none
 
+-- Whether the slot takes its request before its arrival.
+abbrev pub swapsOf : Figures → Call → Bool
+swapsOf f call = swapsNow f (owesNow f (call .request)) (call .arrival) (call .request)
+
 -- What a slot will do.
 pub record PlanSays (f : Figures) (phase fill : ℕ) (cells : List Cell) (call : Call) (r : Plan) : Type 0 where
   pub number-is : r .number ≡
       firstRefusal (
-      earlyNumber f (owesNow f (call .request)) (oldestCell cells) call ∷
+      earlyNumber f (owesNow f (call .request)) (swapsOf f call) (oldestCell cells) call ∷
       when (fullNow (f .sizes) fill (oldestCell cells)
       (readNow phase (f .sizes) (f .heads) cells (owesNow f (call .request)) (call .request))) 10 ∷ [])
   pub owes-is : r .number ≡ 0 → r .owes ≡ owesNow f (call .request)
+  pub swaps-is : r .number ≡ 0 → r .swaps ≡ swapsOf f call
   pub written-is : r .number ≡ 0
       → chosenIn (r .written)
       ≡ writeNow phase (f .sizes) (tailsAsked (owesNow f (call .request)) call (f .tails))

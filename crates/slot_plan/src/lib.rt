@@ -1,12 +1,13 @@
 // What a slot will do, decided here alone and before anything moves: its refusal or 0, whether its request takes an
-// Owed cell, the queue to write and the queue to read. So a refused slot has nothing to undo.
+// Owed cell, whether it takes its request before its arrival, the queue to write and the queue to read. So a refused
+// slot has nothing to undo.
 ghost use mathlib.Core.Path.{_≡_};
 ghost use mathlib.Core.Bool.{true, false};
-ghost use mathlib.Core.Option.{some};
+ghost use mathlib.Core.Option.{some, none};
 ghost use mathlib.Core.List.{[], _∷_};
 ghost use Prim.Native.Nat.{ℕ, _≤_, _<_};
 ghost use lib.ListN.{length, getD};
-ghost use Rattle.model.specs.Basics.{allOf};
+ghost use Rattle.model.specs.Basics.{choose, allOf};
 ghost use Rattle.model.specs.Sizes.{paperLimits, accepts, lookahead};
 ghost use Rattle.model.specs.State.{Byte, owed, cellBelow};
 ghost use Rattle.layout.specs.Lengths.{tailPlaces, headPlaces, cellPlaces, queuePlaces};
@@ -105,10 +106,30 @@ pub fn to_read(
     or_new(stopped, owes, request)
 }
 
+// The arrival that joins before the request, and the one that joins after it: one of the two is none.
+pub fn early_arrival(swaps: bool, arrival: Arrival) -> Arrival
+    ensures { λ r. ⌜ arrivalIn r ≡ choose swaps none (arrivalIn arrival) ⌝ }
+{
+    if swaps {
+        return Arrival::NoArrival;
+    }
+    arrival
+}
+
+pub fn late_arrival(swaps: bool, arrival: Arrival) -> Arrival
+    ensures { λ r. ⌜ arrivalIn r ≡ choose swaps (arrivalIn arrival) none ⌝ }
+{
+    if swaps {
+        return arrival;
+    }
+    Arrival::NoArrival
+}
+
 // What a slot will do.
 pub struct Plan {
     pub number: u8,
     pub owes: bool,
+    pub swaps: bool,
     pub written: Chosen,
     pub read: Chosen,
 }
@@ -120,6 +141,7 @@ pub fn refused(number: u8) -> Plan
     Plan {
         number: number,
         owes: false,
+        swaps: false,
         written: Chosen::Nothing,
         read: Chosen::Nothing,
     }
@@ -148,7 +170,7 @@ pub fn decide(
 {
     let cell = cells[0];
     let owes = slot_refusals::is_owed(heads, owing, stored, regs, request);
-    let number = slot_refusals::judge_early(
+    let verdict = slot_refusals::judge_early(
         tails,
         heads,
         stored,
@@ -158,6 +180,8 @@ pub fn decide(
         arrival,
         request,
     );
+    let number = verdict.number;
+    let swaps = verdict.swaps;
     if number != 0 {
         return refused(number);
     }
@@ -169,6 +193,7 @@ pub fn decide(
     Plan {
         number: 0,
         owes: owes,
+        swaps: swaps,
         written: written,
         read: read,
     }

@@ -2,8 +2,9 @@
 ghost use mathlib.Core.Path.{_≡_};
 ghost use mathlib.Core.Bool.{true};
 ghost use mathlib.Core.List.{[]};
-ghost use Prim.Native.Nat.{_≤_};
+ghost use Prim.Native.Nat.{_≤_, _<_};
 ghost use lib.ListN.{length};
+ghost use Rattle.model.specs.Basics.{allTrue};
 ghost use Rattle.model.specs.Sizes.{paperLimits, accepts};
 ghost use Rattle.model.specs.State.{cellBelow};
 ghost use Rattle.layout.specs.Lengths.{headPlaces, queuePlaces};
@@ -12,8 +13,9 @@ ghost use Rattle.layout.specs.Calls.{chosenIn, arrivalIn, requestIn, callIn};
 ghost use Rattle.layout.specs.Counts.{byQueue};
 ghost use Rattle.layout.specs.Views.{sizesIn};
 ghost use Rattle.layout.specs.Figures.{figuresIn};
-ghost use Rattle.slot_refusals.specs.Says.{arrivalNumber, owesNow, arrivesAt, requestNumber, leavingNumber};
-ghost use Rattle.slot_refusals.specs.Says.{tailNumber, earlyNumber, fullNow};
+ghost use Rattle.slot_refusals.specs.Says.{owesNow, arrivesAt, asksFor, queueFullNow, roomTestsNow};
+ghost use Rattle.slot_refusals.specs.Says.{ArrivalSays, requestNumber, leavingNumber, tailNumber};
+ghost use Rattle.slot_refusals.specs.Says.{EarlySays, fullNow};
 use layout::Arrival;
 use layout::Chosen;
 use layout::CountArray;
@@ -21,29 +23,6 @@ use layout::OWED;
 use layout::Regs;
 use layout::Request;
 use layout::RingArray;
-
-// 4 and 5: the arrival's queue.
-pub fn judge_arrival(tails: &[u16], stored: &[u8], regs: Regs, arrival: Arrival) -> u8
-    requires { ⌜ (accepts paperLimits (sizesIn regs) ≡ true)
-        × (length (now tails) ≡ queuePlaces) × (length (now stored) ≡ queuePlaces) ⌝ }
-    ensures { λ r. ⌜ r ≡ arrivalNumber (figuresIn regs (byQueue (now (tails .entry)) [] []) (now (stored .entry)))
-        (arrivalIn arrival) ⌝ }
-{
-    match arrival {
-        Arrival::NoArrival => 0,
-        Arrival::Comes(queue, value) => {
-            let q = queue as usize;
-            if regs.queues <= q {
-                return 4;
-            }
-            let used = (tails[q] as usize) + regs.block * (stored[q] as usize);
-            if used == regs.depth * regs.block {
-                return 5;
-            }
-            0
-        }
-    }
-}
 
 // Whether a request takes an Owed cell.
 pub fn is_owed(heads: &[u16], owing: &[u16], stored: &[u8], regs: Regs, request: Request) -> bool
@@ -73,6 +52,93 @@ fn arrives_at(arrival: Arrival, q: u8) -> bool
     match arrival {
         Arrival::NoArrival => false,
         Arrival::Comes(queue, value) => queue == q,
+    }
+}
+
+// Whether a queue has no space left.
+fn is_full(tails: &[u16], stored: &[u8], regs: Regs, q: usize) -> bool
+    requires { ⌜ (accepts paperLimits (sizesIn regs) ≡ true)
+        × (length (now tails) ≡ queuePlaces) × (length (now stored) ≡ queuePlaces) × (q < regs .queues) ⌝ }
+    ensures { λ r. ⌜ r ≡ queueFullNow (figuresIn regs (byQueue (now (tails .entry)) [] []) (now (stored .entry))) q ⌝ }
+{
+    (tails[q] as usize) + regs.block * (stored[q] as usize) == regs.depth * regs.block
+}
+
+// Whether a request is for this queue.
+fn asks_for(request: Request, q: u8) -> bool
+    ensures { λ r. ⌜ r ≡ asksFor (requestIn request) q ⌝ }
+{
+    match request {
+        Request::NoRequest => false,
+        Request::Asks(queue) => queue == q,
+    }
+}
+
+// Whether a request takes a byte of a queue out of the tail, and so makes room for one that arrives.
+fn makes_room(tails: &CountArray, owes: bool, request: Request, queue: u8) -> bool
+    requires { ⌜ (length (now tails) ≡ queuePlaces) × (queue < queuePlaces) ⌝ }
+    ensures { λ r. ⌜ r ≡ allTrue (roomTestsNow (countsIn (now (tails .entry))) owes (requestIn request) queue) ⌝ }
+{
+    if asks_for(request, queue) {
+        if owes {
+            return false;
+        }
+        return 0 < tails[queue as usize];
+    }
+    false
+}
+
+// What is judged of a slot before its read: the first refusal or 0, and whether the slot takes its request before its
+// arrival.
+pub struct Verdict {
+    pub number: u8,
+    pub swaps: bool,
+}
+
+// 4 and 5, the arrival's queue; 5 not where the slot swaps, which is asked only where the queue is full.
+pub fn judge_arrival(
+    tails: &CountArray,
+    stored: &RingArray,
+    regs: Regs,
+    owes: bool,
+    arrival: Arrival,
+    request: Request,
+) -> Verdict
+    requires { ⌜ (accepts paperLimits (sizesIn regs) ≡ true)
+        × (length (now tails) ≡ queuePlaces) × (length (now stored) ≡ queuePlaces) ⌝ }
+    ensures { λ r. ⌜ ArrivalSays (figuresIn regs (byQueue (now (tails .entry)) [] []) (now (stored .entry)))
+        owes (callIn arrival request) (r .number) (r .swaps) ⌝ }
+{
+    match arrival {
+        Arrival::NoArrival => Verdict {
+            number: 0,
+            swaps: false,
+        },
+        Arrival::Comes(queue, value) => {
+            let q = queue as usize;
+            if regs.queues <= q {
+                return Verdict {
+                    number: 4,
+                    swaps: false,
+                };
+            }
+            if is_full(tails, stored, regs, q) {
+                if makes_room(tails, owes, request, queue) {
+                    return Verdict {
+                        number: 0,
+                        swaps: true,
+                    };
+                }
+                return Verdict {
+                    number: 5,
+                    swaps: false,
+                };
+            }
+            Verdict {
+                number: 0,
+                swaps: false,
+            }
+        }
     }
 }
 
@@ -124,15 +190,22 @@ pub fn judge_leaving(heads: &CountArray, cell: u32) -> u8
     0
 }
 
-// 9: the tail.
-pub fn judge_tail(regs: Regs, arrival: Arrival) -> u8
+// 9: the tail, as it is before the arrival: where the slot swaps, the request has taken a byte.
+pub fn judge_tail(regs: Regs, swapping: bool, arrival: Arrival) -> u8
     requires { ⌜ (accepts paperLimits (sizesIn regs) ≡ true) ⌝ }
-    ensures { λ r. ⌜ r ≡ tailNumber (sizesIn regs) (regs .«tail_fill») (arrivalIn arrival) ⌝ }
+    ensures { λ r. ⌜ r ≡ tailNumber (sizesIn regs) (regs .«tail_fill») swapping (arrivalIn arrival) ⌝ }
 {
     match arrival {
         Arrival::NoArrival => 0,
         Arrival::Comes(queue, value) => {
-            if regs.queues * (regs.block - 1) + regs.block <= regs.tail_fill {
+            let size = regs.queues * (regs.block - 1) + regs.block;
+            if swapping {
+                if size < regs.tail_fill {
+                    return 9;
+                }
+                return 0;
+            }
+            if size <= regs.tail_fill {
                 return 9;
             }
             0
@@ -150,27 +223,42 @@ pub fn judge_early(
     owes: bool,
     arrival: Arrival,
     request: Request,
-) -> u8
+) -> Verdict
     requires { ⌜ (accepts paperLimits (sizesIn regs) ≡ true) × (length (now tails) ≡ queuePlaces)
         × (length (now heads) ≡ queuePlaces)
         × (length (now stored) ≡ queuePlaces) × (cellBelow queuePlaces (cellOf cell) ≡ true) ⌝ }
-    ensures { λ r. ⌜ r ≡ earlyNumber
+    ensures { λ r. ⌜ EarlySays
         (figuresIn regs (byQueue (now (tails .entry)) (now (heads .entry)) []) (now (stored .entry)))
-        owes (cellOf cell) (callIn arrival request) ⌝ }
+        owes (cellOf cell) (callIn arrival request) (r .number) (r .swaps) ⌝ }
 {
-    let a = judge_arrival(tails, stored, regs, arrival);
+    let arriving = judge_arrival(tails, stored, regs, owes, arrival, request);
+    let a = arriving.number;
+    let swaps = arriving.swaps;
     if a != 0 {
-        return a;
+        return Verdict {
+            number: a,
+            swaps: swaps,
+        };
     }
     let r = judge_request(tails, regs, owes, arrival, request);
     if r != 0 {
-        return r;
+        return Verdict {
+            number: r,
+            swaps: swaps,
+        };
     }
     let l = judge_leaving(heads, cell);
     if l != 0 {
-        return l;
+        return Verdict {
+            number: l,
+            swaps: swaps,
+        };
     }
-    judge_tail(regs, arrival)
+    let t = judge_tail(regs, swaps, arrival);
+    Verdict {
+        number: t,
+        swaps: swaps,
+    }
 }
 
 // 10: the head cannot take the block.

@@ -1,6 +1,6 @@
 -- A test that holds of every element of a list, or of every number below n, as a fact of each; and back.
 use mathlib.Core.Path.{_≡_, refl, subst}
-use mathlib.Core.Bool.{Bool, true}
+use mathlib.Core.Bool.{Bool, true, false}
 use mathlib.Core.List.{List, [], _∷_, _++_}
 use Prim.Native.Nat.{ℕ, zero, suc, _<_}
 use native.Mathlib.Omega.{arith}
@@ -8,7 +8,7 @@ use lib.Dec.{eqb}
 use lib.ListN.{length, getD}
 use borrow.Author.Tests.{eqb-true, eqb-false}
 use Rattle.model.specs.Basics.{allTrue, allOf, allBelow, All, tabulate}
-use Rattle.model.proofs.basics.Tests.{by-test, and-both, and-left, and-right}
+use Rattle.model.proofs.basics.Tests.{by-test, true-not-false, and-both, and-left, and-right}
 
 -- A test of all elements: at each place, and of one element more.
 pub all-of-at : {A : Type 0} (test : A → Bool) (xs : List A) (i : ℕ) (d : A) → allOf test xs ≡ true → i < length xs
@@ -60,11 +60,17 @@ all-below-holds zero test h = refl
 all-below-holds (suc n) test h =
     and-both (test n) (allBelow n test) (h n (omega arith)) (all-below-holds n test (λ q l. h q (omega arith)))
 
--- Each test of a list that holds, by its place.
+-- Each test of a list of which all hold, by its place; and not all hold where one does not.
 pub all-true-at : (ts : List Bool) (i : ℕ) → allTrue ts ≡ true → getD ts i true ≡ true
 all-true-at [] i e = refl
 all-true-at (t ∷ ts) zero e = and-left t (allTrue ts) e
 all-true-at (t ∷ ts) (suc i) e = all-true-at ts i (and-right t (allTrue ts) e)
+
+pub all-true-not : (ts : List Bool) (i : ℕ) → getD ts i true ≡ false → allTrue ts ≡ false
+all-true-not ts i e =
+    by-test (allTrue ts)
+    (λ t. absurd (true-not-false (getD ts i true) (all-true-at ts i t) e))
+    (λ t. t)
 
 -- The list f 0, f 1, .., f (n - 1) at a place.
 pub tabulate-at : {A : Type 0} (n : ℕ) (f : ℕ → A) (i : ℕ) (d : A) → i < n → getD (tabulate n f) i d ≡ f i

@@ -7,7 +7,7 @@ use Prim.Native.Nat.{ℕ, zero, suc, _+_, _-_, _<_, _≤_}
 use native.Mathlib.Omega.{arith}
 use lib.Dec.{eqb}
 use lib.ListN.{length, drop, length-append, length-drop}
-use borrow.Author.Tests.{eqb-true, ltb-true, lt-ltb}
+use borrow.Author.Tests.{eqb-true, ne-eqb, ltb-true, lt-ltb}
 use Rattle.model.specs.Basics.{choose, allOf, All}
 use Rattle.model.specs.State.{Byte, valuesOf, countOf, byteBelow}
 use Rattle.model.specs.Slot.{without, bytesFor}
@@ -107,6 +107,12 @@ below-facts n xs e =
 pub below-holds : (n m : ℕ) → n ≤ m → (xs : List Byte) → Below n xs → allOf (byteBelow m) xs ≡ true
 below-holds n m h xs v =
     all-of-holds (byteBelow m) (λ (x : Byte). x .queue < n) (λ x l. lt-ltb (x .queue) m (omega (arith, h, l))) xs v
+
+-- A queue past them has no byte.
+pub count-past : (n : ℕ) (xs : List Byte) (q : ℕ) → Below n xs → n ≤ q → countOf q xs ≡ 0
+count-past n [] q h l = refl
+count-past n (y ∷ xs) q h l =
+    rw (ne-eqb (y .queue) q (λ e. omega (arith, e, h .0, l))) (count-past n xs q (h .1) l)
 
 pub below-for : (n q : ℕ) → q < n → (vs : List ℕ) → Below n (bytesFor q vs)
 below-for n q l [] = tt

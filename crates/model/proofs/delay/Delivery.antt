@@ -1,25 +1,22 @@
 -- Steps 1 and 2 on the ideal buffer: the oldest cell, where it is covered, takes the line's oldest place with it and
 -- leaves what waits, and the arriving byte joins what waits in its queue. `delivered-soonest`, `line-delivered`,
 -- `waiting-delivered` and `waiting-arrived` say it.
-use mathlib.Core.Path.{_≡_, refl, ap, sym, _∙_, fun-ext, subst}
+use mathlib.Core.Path.{_≡_, refl, ap, sym, _∙_, fun-ext}
 use mathlib.Core.Bool.{false}
 use mathlib.Core.List.{List, [], _∷_, _++_, append-assoc}
 use mathlib.Core.Option.{Option}
-use Prim.Native.Nat.{ℕ, _+_, _-_, _≤_}
+use Prim.Native.Nat.{ℕ, _+_, _≤_}
 use native.Mathlib.Omega.{arith}
 use lib.Dec.{eqb}
 use lib.ListN.{drop}
 use lib.Seq.{drop-append-le}
 use borrow.Author.Tests.{eqb-true, eqb-false}
 use Rattle.model.specs.Basics.{update}
-use Rattle.model.specs.State.{Byte, Cell, empty, held, owed, State, valuesOf, countOf, owes, owedOf, headBytes}
-use Rattle.model.specs.State.{owedCells}
-use Rattle.model.specs.Slot.{asByte, oldestCell, deliveryOf, headWithout, afterDelivery, arriving, afterArrival}
-use Rattle.model.specs.Slot.{leavesUncovered}
+use Rattle.model.specs.State.{Byte, Cell, empty, held, owed, State, valuesOf, owedOf, headBytes, owedCells}
+use Rattle.model.specs.Slot.{asByte, oldestCell, deliveryOf, headWithout, arriving, afterArrival, leavesUncovered}
 use Rattle.model.specs.Ideal.{soonest, waitingWith, stream, lineOf}
 use Rattle.model.proofs.basics.Tests.{by-test, positive}
 use Rattle.model.proofs.basics.Bytes.{values-append, values-without-same, values-without-other}
-use Rattle.model.proofs.one_slot.StepsKeepRules.{owed-oldest, count-head-without}
 use Rattle.model.proofs.delay.Line.{waiting, first-append, drop-count, streams-used}
 
 -- 1. The oldest cell leaves, covered: the line's oldest place is delivered, and what waits stays.
@@ -64,30 +61,6 @@ module _ (x : State) (rest : ℕ → List ℕ) where
   waiting-delivered (held q v ∷ cells) e p = drop-count (owedOf p cells) (0 + owedOf p cells) (before p) (omega arith)
   waiting-delivered (owed q ∷ cells) e p =
       ap (drop (owedOf p cells)) (stream-delivered q cells e p) ∙ streams-used before q cells p
-
--- A queue's Owed cells and head bytes fall together as the oldest cell leaves, so a request is Owed before and after
--- alike.
-pub owed-after-delivery : (x : State) (q : ℕ) → leavesUncovered (oldestCell (x .cells)) x ≡ false
-    → owedCells x q + headBytes (afterDelivery x) q ≡ owedCells (afterDelivery x) q + headBytes x q
-owed-after-delivery x q e = go (oldestCell (x .cells)) e (owed-oldest (x .cells) q)
-    (count-head-without (oldestCell (x .cells)) (x .head) q)
-  where
-    go : (c : Cell) → leavesUncovered c x ≡ false
-        → owedCells x q ≡ owes q c + owedOf q (drop 1 (x .cells))
-        → countOf q (headWithout c (x .head)) ≡ headBytes x q - owes q c
-        → owedCells x q + countOf q (headWithout c (x .head)) ≡ owedOf q (drop 1 (x .cells)) + headBytes x q
-    go empty e f g = omega arith
-    go (held p v) e f g = omega arith
-    go (owed p) e f g =
-        by-test (eqb p q)
-        (λ t. omega (
-          arith,
-          rw t at f,
-          rw t at g,
-          subst (λ (i : ℕ). 1 ≤ headBytes x i) (eqb-true p q t)
-              (positive (headBytes x p) (eqb-false (headBytes x p) 0 e)),
-        ))
-        (λ t. omega (arith, rw t at f, rw t at g))
 
 -- 2. The arriving byte joins its queue's waiting bytes.
 pub waiting-arrived : (x : State) (arrival : Option Byte) (store : List ℕ) (q : ℕ)

@@ -78,11 +78,14 @@ module _ (design : Design) (x : State) (store : List ℕ) (kept : Keeps design x
   nothing-now : moves x ≡ true → NothingToMove x
   nothing-now t = quiet .still (omega (arith, eqb-true (x .phase) (x .sizes .b - 1) t))
 
+  tail-same : asked x idle .tail ≡ x .tail
+  tail-same = append-nil (x .tail ++ []) ∙ append-nil (x .tail)
+
   none-written : queueToWrite (asked x idle) ≡ none
   none-written =
       by-test (moves x)
       (λ t. move-writes-fullest (asked x idle) t
-      ∙ ap (λ (tail : List Byte). fullest (x .sizes .b) (λ q. countOf q tail) (x .sizes .Q)) (append-nil (x .tail))
+      ∙ ap (λ (tail : List Byte). fullest (x .sizes .b) (λ q. countOf q tail) (x .sizes .Q)) tail-same
       ∙ nothing-now t .none-to-write)
       (λ t. no-move-no-write (asked x idle) t)
 
@@ -113,12 +116,12 @@ module _ (design : Design) (x : State) (store : List ℕ) (kept : Keeps design x
   quiet-state : accept x store idle .state ≡ quietly 1 x
   quiet-state =
       same-state (accept x store idle .state) (quietly 1 x) refl (phase-turns x (kept .phase-ok))
-      (ap (λ (o : Option ℕ). tailWritten o (asked x idle)) none-written ∙ append-nil (x .tail))
+      (ap (λ (o : Option ℕ). tailWritten o (asked x idle)) none-written ∙ tail-same)
       head-left
       refl
       (ap (λ (o : Option ℕ). ringsRead o (wrote x idle)) none-read
       ∙ ap (λ (o : Option ℕ). ringsWritten o (asked x idle)) none-written)
-      (omega (arith, length-append (x .tail) [], kept .tail-mark))
+      (omega (arith, length-append (x .tail) [], ap length tail-same, kept .tail-mark))
       (omega (arith, ap length head-left, kept .head-mark))
 
   pub quiet-slot : slot design x store idle ≡ quietAnswer (quietly 1 x) store

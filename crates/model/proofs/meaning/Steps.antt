@@ -2,21 +2,22 @@
 -- theory rests on these, and a definition that says something else is refused here first. Each law stands under its
 -- sentence.
 use mathlib.Core.Path.{_≡_, refl, ap, _∙_}
-use mathlib.Core.Bool.{Bool, true, false, not}
+use mathlib.Core.Bool.{Bool, true, false, _&&_, not}
 use mathlib.Core.List.{List, _++_}
 use mathlib.Core.Option.{Option, some, none}
 use Prim.Native.Nat.{ℕ, _+_, _-_, _*_, _<_, _≤_, max}
 use native.Mathlib.Omega.{arith}
 use lib.Dec.{eqb, ltb}
 use lib.ListN.{length, drop, length-replicate, length-append}
-use borrow.Author.Tests.{ltb-true, ltb-false, ne-eqb, eqb-true, eq-eqb, not-true}
+use borrow.Author.Tests.{ltb-true, ltb-false, ne-eqb, eqb-true, eq-eqb, le-leb, not-true}
 use Rattle.model.specs.Basics.{choose}
-use Rattle.model.specs.Sizes.{Sizes, Limits, Design, full, oneFewer, cycleTime}
+use Rattle.model.specs.Sizes.{Sizes, Limits, Design, tailSize, full, oneFewer, cycleTime}
 use Rattle.model.specs.State.{Byte, empty, held, owed, State, fresh, valuesOf, countOf, tailBytes, headBytes}
 use Rattle.model.specs.State.{blocks}
-use Rattle.model.specs.Slot.{Call, oldestOf, heldCell, youngestCell, arrivalFull, without, oldestCell, deliveryOf}
-use Rattle.model.specs.Slot.{arriving, isOwed, tailLeft, moves, fullest, queueToWrite, refillQueue, queueToRead}
-use Rattle.model.specs.Slot.{joined, nothingToTake, accept}
+use Rattle.model.specs.Slot.{Call, oldestOf, heldCell, youngestCell, arrivalFull, isFull, swaps, without}
+use Rattle.model.specs.Slot.{oldestCell, deliveryOf, arriving, isOwed, tailLeft, moves, fullest, queueToWrite}
+use Rattle.model.specs.Slot.{afterArrival, refillQueue, queueToRead, joined, nothingToTake, tailFound, tailFull}
+use Rattle.model.specs.Slot.{accept}
 use Rattle.model.specs.Lists.{joinedFillOf, readFillOf}
 use Rattle.model.proofs.basics.Tests.{by-test, and-left, and-right}
 use Rattle.model.proofs.basics.AllOf.{all-below-facts}
@@ -82,21 +83,24 @@ move-reads-scan y t = ap (readFrom y) t
 pub no-move-no-read : (y : State) → moves y ≡ false → queueToRead y ≡ none
 no-move-no-read y t = ap (readFrom y) t
 
--- "The tail also just after the arrival joins it": its bytes as handed in, and the arriving one.
-pub tail-looked-at : (x : State) (call : Call)
+-- "The tail also just after the arrival joins it": its bytes as handed in, and the arriving one. (Of a slot that swaps
+-- it is `swap-looked-at`, in proofs/one_slot/Swap.)
+pub tail-looked-at : (x : State) (call : Call) → swaps x (call .arrival) (call .request) ≡ false
     → joinedFillOf 0 x call ≡ length (x .tail) + length (arriving (call .arrival))
-tail-looked-at x call = length-append (x .tail) (arriving (call .arrival))
+tail-looked-at x call t = rw t (length-append (x .tail) (arriving (call .arrival)))
+
+-- So an arrival raises the tail's high mark, with the byte that joins, and no request has a part in it.
+pub arrival-raises-mark : (arrival : Option Byte) (x : State)
+    → afterArrival arrival x .tailMark ≡ max (x .tailMark) (length (x .tail ++ arriving arrival))
+arrival-raises-mark arrival x = refl
 
 -- "The head also just after the read": nothing leaves it after that, so that it is the head as the slot ends.
 pub head-looked-at : (x : State) (store : List ℕ) (call : Call)
     → readFillOf 0 x store call ≡ length (accept x store call .state .head)
 head-looked-at x store call = refl
 
--- Request 2.8: "On a handed-in state the mark is the greater of the old one and the new fill."
-pub tail-mark-rises : (x : State) (store : List ℕ) (call : Call)
-    → accept x store call .state .tailMark ≡ max (x .tailMark) (joinedFillOf 0 x call)
-tail-mark-rises x store call = refl
-
+-- Request 2.8: "On a handed-in state the mark is the greater of the old one and the new fill." (Of the tail it is
+-- `tail-mark-rises`, in proofs/HighMarks.)
 pub head-mark-rises : (x : State) (store : List ℕ) (call : Call)
     → accept x store call .state .headMark ≡ max (x .headMark) (readFillOf 0 x store call)
 head-mark-rises x store call = refl
@@ -114,18 +118,28 @@ pub seven-there : (x : State) (arrival : Option Byte) (q : ℕ) → isOwed x q �
     → countOf q (x .tail ++ arriving arrival) ≡ 0 → nothingToTake x arrival (some q) ≡ true
 seven-there x arrival q t e = rw t (eq-eqb (countOf q (x .tail ++ arriving arrival)) 0 e)
 
--- 5 comes exactly where the queue has no space left for the byte: its tail bytes and its blocks fill its K blocks.
-pub five-exactly : (x : State) (y : Byte)
+-- 5 comes exactly where the queue has no space left for the byte, its tail bytes and its blocks filling its K blocks,
+-- and the slot does not swap.
+pub five-exactly : (x : State) (y : Byte) (request : Option ℕ)
     → tailBytes x (y .queue) + x .sizes .b * blocks x (y .queue) ≤ x .sizes .K * x .sizes .b
-    → arrivalFull x (some y)
+    → arrivalFull x (some y) request
     ≡ not (ltb (tailBytes x (y .queue) + x .sizes .b * blocks x (y .queue)) (x .sizes .K * x .sizes .b))
-five-exactly x y room =
-    by-test (ltb used all)
-    (λ t. rw t (ne-eqb used all (λ e. omega (arith, ltb-true used all t, e))))
-    (λ t. rw t (eq-eqb used all (omega (arith, ltb-false used all t))))
+    && not (swaps x (some y) request)
+five-exactly x y request room = ap (λ (full : Bool). full && not (swaps x (some y) request)) full-is
   where
     used : ℕ
     used = tailBytes x (y .queue) + x .sizes .b * blocks x (y .queue)
 
     all : ℕ
     all = x .sizes .K * x .sizes .b
+
+    full-is : isFull x (y .queue) ≡ not (ltb used all)
+    full-is =
+        by-test (ltb used all)
+        (λ t. rw t (ne-eqb used all (λ e. omega (arith, ltb-true used all t, e))))
+        (λ t. rw t (eq-eqb used all (omega (arith, ltb-false used all t))))
+
+-- 9 comes where the tail that it looks at has no place left.
+pub nine-there : (x : State) (y : Byte) (request : Option ℕ)
+    → tailSize (x .sizes) ≤ length (tailFound x (some y) request) → tailFull x (some y) request ≡ true
+nine-there x y request full = le-leb (tailSize (x .sizes)) (length (tailFound x (some y) request)) full

@@ -1,8 +1,8 @@
 -- One slot of a list that drains the store, where every queue has had one block and nothing else: a slot that
 -- refusals 6, 7 and 8 do not stop is accepted, writes nothing and reads one block at most. `drains-on` says it.
-use mathlib.Core.Path.{_≡_, refl, ap}
+use mathlib.Core.Path.{_≡_, refl, ap, _∙_}
 use mathlib.Core.Bool.{Bool, false}
-use mathlib.Core.List.{List, [], _∷_, _++_}
+use mathlib.Core.List.{List, [], _∷_, _++_, append-nil}
 use mathlib.Core.Option.{Option, some, none}
 use Prim.Native.Nat.{ℕ, suc, _+_, _-_, _*_, _<_, _≤_}
 use native.Mathlib.Omega.{arith}
@@ -186,7 +186,8 @@ module _ {limits : Limits} {gone : ℕ → ℕ} {i : ℕ} {x : State} {store : L
 
       draining-asked : Draining goneAfter (suc i) y
       draining-asked = record {
-        tail-none = none-taken (joined x call) request (ap (λ (bytes : List Byte). bytes ++ []) (v .tail-none));
+        tail-none = append-nil _
+            ∙ none-taken (joined x call) request (ap (λ (bytes : List Byte). bytes ++ []) (v .tail-none));
         one-block = λ q l. omega (
           arith,
           v .one-block q l,

@@ -91,7 +91,8 @@ module _ {limits : Limits} {q j : ℕ} {x : State} {store : List ℕ} (calls : L
   head-after = rw leaves-empty (v .head-none)
 
   tail-after : y .tail ≡ replicate (suc j) (byte q 0)
-  tail-after = ap (λ (bytes : List Byte). bytes ++ (byte q 0 ∷ [])) (v .tail-is) ∙ replicate-snoc j (byte q 0)
+  tail-after =
+      append-nil _ ∙ ap (λ (bytes : List Byte). bytes ++ (byte q 0 ∷ [])) (v .tail-is) ∙ replicate-snoc j (byte q 0)
 
   tail-count : (p : ℕ) → tailBytes y p ≡ choose (eqb q p) (suc j) 0
   tail-count p = ap (countOf p) tail-after ∙ count-alike (suc j) q p

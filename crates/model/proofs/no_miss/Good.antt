@@ -14,6 +14,7 @@ use Rattle.model.specs.Basics.{choose, when, All}
 use Rattle.model.specs.Sizes.{storeBytes, Sizes, Limits, accepts, span, lookahead, tailSize, headSize, full}
 use Rattle.model.specs.State.{keeps, Byte, State, fresh, ringOf}
 use Rattle.model.specs.Slot.{arrivalUnknown, arrivalFull, requestUnknown, nothingToTake, Call, afterDelivery}
+use Rattle.model.specs.Slot.{arriving, afterRequest, earlyArrival, lateArrival, tailFound}
 use Rattle.model.specs.Slot.{moves, queueToWrite, afterWrite, queueToRead, blockAt, bytesFor, headRead, afterRead}
 use Rattle.model.specs.Slot.{afterPhase, joined, asked, wrote, wroteStore, refilled, tailFull, headFull, refusal}
 use Rattle.model.specs.Slot.{Answer, accept}
@@ -23,13 +24,14 @@ use Rattle.model.proofs.basics.FirstRefusal.{low-refusal, when-le}
 use Rattle.model.proofs.basics.Bytes.{length-for}
 use Rattle.model.proofs.meaning.Steps.{move-writes-fullest, no-move-no-write, move-reads-scan, no-move-no-read}
 use Rattle.model.proofs.one_slot.Rules.{Rules, Keeps, keeps-fresh}
+use Rattle.model.proofs.one_slot.Swap.{joins-once, length-found}
 use Rattle.model.proofs.one_slot.Accepted.{Judged, earlyRefusals, judged-facts, RefusedOrAccepted}
 use Rattle.model.proofs.one_slot.Accepted.{was-refused, was-accepted}
 use Rattle.model.proofs.one_slot.Kept.{rules-2, rules-3, rules-written, rules-refilled, block-whole}
 use Rattle.model.proofs.one_slot.Kept.{accept-kept}
 use Rattle.model.proofs.no_miss.Invariant.{Invariant, invariant-fresh, invariant-delivered, invariant-arrived}
 use Rattle.model.proofs.no_miss.Invariant.{invariant-asked, invariant-wrote, invariant-read, oldest-covered}
-use Rattle.model.proofs.no_miss.Invariant.{head-bounded}
+use Rattle.model.proofs.no_miss.Invariant.{head-bounded, invariant-heavier}
 
 pub record Good (limits : Limits) (x : State) : Type 0 where
   pub kept : Keeps (full limits) x
@@ -82,12 +84,20 @@ module _ (limits : Limits) (x : State) (store : List ℕ) (call : Call)
 
   invariant-3 : Invariant (suc p) (suc p) (suc p) y
   invariant-3 =
-      invariant-asked p (joined x call) (call .request) (j .request-ok) b-positive
+      invariant-heavier (suc p) (suc p) (p + early + late) (suc p) y (omega (arith, joins-once x call))
+      (invariant-arrived (suc p) (suc p) (p + early) (afterRequest (call .request) (joined x call)) (lateArrival x call)
+      (invariant-asked p (p + early) (joined x call) (call .request) (j .request-ok) b-positive
       (subst (λ (n : ℕ). Rules n (joined x call))
       (let e : lookahead (x .sizes) - 1 ≡ span (x .sizes) = omega arith in e)
       (rules-2 (full limits) x store call cells-ok j))
-      (invariant-arrived p (afterDelivery x) (call .arrival)
-      (invariant-delivered p x (good .kept .phase-ok) (j .covered) (good .invariant)))
+      (invariant-arrived (suc p) p p (afterDelivery x) (earlyArrival x call)
+      (invariant-delivered p x (good .kept .phase-ok) (j .covered) (good .invariant)))))
+    where
+      early : ℕ
+      early = length (arriving (earlyArrival x call))
+
+      late : ℕ
+      late = length (arriving (lateArrival x call))
 
   module _ (t : moves x ≡ true) where
     last-slot : suc p ≡ b
@@ -149,10 +159,11 @@ module _ (limits : Limits) (x : State) (store : List ℕ) (call : Call)
 
 -- Every refusal of a slot on a good state is 7 or lower.
 module _ (limits : Limits) (x : State) (store : List ℕ) (call : Call) (good : Good limits x) where
-  no-9 : (arrival : Option Byte) → tailFull x arrival ≡ false
-  no-9 none = refl
-  no-9 (some y) =
-      lt-leb (tailSize (x .sizes)) (length (x .tail)) (omega (arith, good .invariant .tail-light, good .kept .phase-ok))
+  pub no-9 : (arrival : Option Byte) (request : Option ℕ) → tailFull x arrival request ≡ false
+  no-9 none request = refl
+  no-9 (some y) request =
+      lt-leb (tailSize (x .sizes)) (length (tailFound x (some y) request))
+      (omega (arith, length-found x (some y) request, good .invariant .tail-light, good .kept .phase-ok))
 
   -- Refusals 3, 2, 4, 5, 6 and 7 as they may be, 8 and 9 ruled out.
   early-low : All (λ (n : ℕ). n ≤ 7) (earlyRefusals (full limits) x store call)
@@ -160,11 +171,11 @@ module _ (limits : Limits) (x : State) (store : List ℕ) (call : Call) (good : 
       when-le 7 (not (keeps (full limits) x)) 3 (omega arith)
       also when-le 7 (ltb (length store) (storeBytes (x .sizes))) 2 (omega arith)
       also when-le 7 (arrivalUnknown x (call .arrival)) 4 (omega arith)
-      also when-le 7 (arrivalFull x (call .arrival)) 5 (omega arith)
+      also when-le 7 (arrivalFull x (call .arrival) (call .request)) 5 (omega arith)
       also when-le 7 (requestUnknown x (call .request)) 6 (omega arith)
       also when-le 7 (nothingToTake x (call .arrival) (call .request)) 7 (omega arith)
       also rw (oldest-covered (x .phase) x (good .kept .phase-ok) (good .invariant)) (omega arith)
-      also rw (no-9 (call .arrival)) (omega arith)
+      also rw (no-9 (call .arrival) (call .request)) (omega arith)
       also tt
 
   pub refusal-low : refusal (full limits) x store call ≤ 7

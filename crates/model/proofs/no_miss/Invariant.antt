@@ -71,17 +71,22 @@ invariant-delivered p x l e v = record {
 }
 
 -- 2. The arriving byte joins the tail.
-pub length-arriving : (arrival : Option Byte) → length (arriving arrival) ≤ 1
-length-arriving none = omega arith
-length-arriving (some y) = omega arith
-
-pub invariant-arrived : (p : ℕ) (x : State) (arrival : Option Byte) → Invariant (suc p) p p x
-    → Invariant (suc p) p (suc p) (afterArrival arrival x)
-invariant-arrived p x arrival v = record {
+pub invariant-arrived : (i j k : ℕ) (x : State) (arrival : Option Byte) → Invariant i j k x
+    → Invariant i j (k + length (arriving arrival)) (afterArrival arrival x)
+invariant-arrived i j k x arrival v = record {
   covered = v .covered;
   owed-few = v .owed-few;
   orders-late = v .orders-late;
-  tail-light = omega (arith, v .tail-light, length-append (x .tail) (arriving arrival), length-arriving arrival);
+  tail-light = omega (arith, v .tail-light, length-append (x .tail) (arriving arrival));
+}
+
+-- It holds with a heavier tail allowed: the early and the late arrival together bring one byte at most.
+pub invariant-heavier : (i j k l : ℕ) (x : State) → k ≤ l → Invariant i j k x → Invariant i j l x
+invariant-heavier i j k l x h v = record {
+  covered = v .covered;
+  owed-few = v .owed-few;
+  orders-late = v .orders-late;
+  tail-light = omega (arith, v .tail-light, h);
 }
 
 -- 3. The request takes the youngest cell.
@@ -94,11 +99,11 @@ isOwing-le empty = omega arith
 isOwing-le (held q v) = omega arith
 isOwing-le (owed q) = omega arith
 
-walk-asked : (p : ℕ) (x : State) (request : Option ℕ) → ((q : ℕ) → request ≡ some q → q < x .sizes .Q) → 1 ≤ x .sizes .b
-    → Rules (span (x .sizes)) x → Invariant (suc p) p (suc p) x
+walk-asked : (p k : ℕ) (x : State) (request : Option ℕ) → ((q : ℕ) → request ≡ some q → q < x .sizes .Q)
+    → 1 ≤ x .sizes .b → Rules (span (x .sizes)) x → Invariant (suc p) p k x
     → Walk (x .sizes .b) (suc p) (headBytes x) (x .cells ++ youngestCell x request ∷ [])
-walk-asked p x none f pos r v = walk-youngest-idle empty refl (v .orders-late)
-walk-asked p x (some q) f pos r v =
+walk-asked p k x none f pos r v = walk-youngest-idle empty refl (v .orders-late)
+walk-asked p k x (some q) f pos r v =
     by-test (isOwed x q)
     (λ t. rw t (walk-youngest-owed (x .sizes .Q) (x .sizes .b) (x .sizes .b - 1) (omega arith) q (f q refl)
     (r .cells-below)
@@ -108,10 +113,10 @@ walk-asked p x (some q) f pos r v =
     (λ t. rw t (walk-youngest-idle (heldCell q (oldestOf q (x .tail))) (isOwing-held q (oldestOf q (x .tail)))
     (v .orders-late)))
 
-pub invariant-asked : (p : ℕ) (x : State) (request : Option ℕ) → ((q : ℕ) → request ≡ some q → q < x .sizes .Q)
+pub invariant-asked : (p k : ℕ) (x : State) (request : Option ℕ) → ((q : ℕ) → request ≡ some q → q < x .sizes .Q)
     → 1 ≤ x .sizes .b → Rules (span (x .sizes)) x
-    → Invariant (suc p) p (suc p) x → Invariant (suc p) (suc p) (suc p) (afterRequest request x)
-invariant-asked p x request f pos r v = record {
+    → Invariant (suc p) p k x → Invariant (suc p) (suc p) k (afterRequest request x)
+invariant-asked p k x request f pos r v = record {
   covered = λ q. omega (arith, v .covered q, owed-append q (x .cells) (youngestCell x request ∷ []));
   owed-few = omega (
     arith,
@@ -119,7 +124,7 @@ invariant-asked p x request f pos r v = record {
     all-owed-append (x .cells) (youngestCell x request ∷ []),
     isOwing-le (youngestCell x request),
   );
-  orders-late = walk-asked p x request f pos r v;
+  orders-late = walk-asked p k x request f pos r v;
   tail-light = omega (arith, v .tail-light, length-tail-left x request);
 }
 

@@ -3,58 +3,63 @@
 use mathlib.Core.Path.{_≡_, refl, ap, sym, _∙_, subst}
 use mathlib.Core.Bool.{false, not}
 use mathlib.Core.List.{List, [], _∷_, _++_}
-use mathlib.Core.Option.{Option, some, none}
+use mathlib.Core.Option.{Option, some}
 use Prim.Native.Nat.{ℕ, zero, suc, _+_, _*_, _<_, _≤_}
 use native.Mathlib.Omega.{arith}
+use lib.Dec.{leb}
 use lib.ListN.{length, take, getD}
 use borrow.Author.Tests.{eqb-false, ne-eqb, leb-false, ltb-false, not-false}
 use Rattle.model.specs.Basics.{when, firstRefusal}
 use Rattle.model.specs.Sizes.{Design, tailSize, storeBytes}
 use Rattle.model.specs.State.{Byte, State, countOf, tailBytes, blocks, keeps}
-use Rattle.model.specs.Slot.{Call, arriving, isOwed, oldestCell, wrote, queueToRead, arrivalUnknown, arrivalFull}
-use Rattle.model.specs.Slot.{requestUnknown, nothingToTake, leavesUncovered, tailFull, headFull, refusals}
-use Rattle.model.specs.Slot.{refusal, Answer, accept, refuse, answer, slot}
+use Rattle.model.specs.Slot.{Call, arriving, isOwed, oldestCell, isFull, swaps, earlyArrival, wrote, queueToRead}
+use Rattle.model.specs.Slot.{arrivalUnknown, arrivalFull, requestUnknown, nothingToTake, leavesUncovered}
+use Rattle.model.specs.Slot.{tailFound, tailFull, headFull, refusals, refusal, Answer, accept, refuse, answer}
+use Rattle.model.specs.Slot.{slot}
 use Rattle.model.specs.Lists.{Step, stepOf, run, lastState, lastStore, accepted}
-use Rattle.model.proofs.basics.Tests.{by-zero, true-not-false}
+use Rattle.model.proofs.basics.Bytes.{count-append}
+use Rattle.model.proofs.basics.Tests.{by-test, by-zero, some-inj, true-not-false}
 use Rattle.model.proofs.basics.FirstRefusal.{no-refusal-at, when-zero}
 use Rattle.model.proofs.meaning.Steps.{seven-there}
 use Rattle.model.proofs.one_slot.Rules.{Rules, Keeps, keeps-facts}
 use Rattle.model.proofs.one_slot.StepsKeepRules.{ArrivalTaken}
+use Rattle.model.proofs.one_slot.Swap.{swap-facts, early-is, early-swaps-not, five-as-before, nine-as-before}
 
 -- Refusals 3, 2 and 4 to 9, all but 10.
 abbrev pub earlyRefusals : Design → State → List ℕ → Call → List ℕ
 earlyRefusals design x store call = take 8 (refusals design x store call)
 
--- None of those: the state keeps the rules, the store is long enough, and arrival, request and delivery can be had.
+-- None of those: the state keeps the rules, the store is long enough, and arrival, request and delivery can be had. The
+-- arrival that finds room at once is the early one; the late one's room is the request's to make (`late-taken`).
 pub record Judged (design : Design) (x : State) (store : List ℕ) (call : Call) : Type 0 where
   pub kept : Keeps design x
   pub store-long : storeBytes (x .sizes) ≤ length store
-  pub arrival-ok : ArrivalTaken x (call .arrival)
+  pub arrival-known : (y : Byte) → call .arrival ≡ some y → y .queue < x .sizes .Q
+  pub arrival-ok : ArrivalTaken x (earlyArrival x call)
   pub request-ok : (q : ℕ) → call .request ≡ some q → q < x .sizes .Q
   pub byte-there : (q : ℕ) → call .request ≡ some q → isOwed x q ≡ false → 1 ≤ countOf q
-      (x .tail ++ arriving (call .arrival))
+      (x .tail ++ arriving (earlyArrival x call))
   pub covered : leavesUncovered (oldestCell (x .cells)) x ≡ false
-  pub tail-room : (y : Byte) → call .arrival ≡ some y → length (x .tail) < tailSize (x .sizes)
+  pub tail-room : (y : Byte) → earlyArrival x call ≡ some y → length (x .tail) < tailSize (x .sizes)
 
 -- And the head takes the block: the slot is accepted.
 pub record Accepted (design : Design) (x : State) (store : List ℕ) (call : Call) : Type 0 where
   pub judged : Judged design x store call
   pub head-room : headFull (wrote x call) (queueToRead (wrote x call)) ≡ false
 
-arrival-taken : (x : State) (arrival : Option Byte) → arrivalUnknown x arrival ≡ false → arrivalFull x arrival ≡ false
-    → (n : ℕ) → Rules n x → ArrivalTaken x arrival
-arrival-taken x none e f n v y s = absurd (let z : _≡_ {A = ℕ} 0 1 = cc in omega arith)
-arrival-taken x (some y) e f n v z s = subst Taken same
-    (below, omega (arith, v .room (y .queue) below, eqb-false used all f))
+known-arrival : (x : State) (arrival : Option Byte) → arrivalUnknown x arrival ≡ false
+    → (y : Byte) → arrival ≡ some y → y .queue < x .sizes .Q
+known-arrival x arrival e y s = leb-false (x .sizes .Q) (y .queue) (ap (arrivalUnknown x) (sym s) ∙ e)
+
+-- A byte that joins early is the call's own, in a slot that does not swap.
+early-comes : (x : State) (call : Call) (y : Byte) → earlyArrival x call ≡ some y → call .arrival ≡ some y
+early-comes x call y s = sym (early-is x call (early-swaps-not x call y s)) ∙ s
+
+arrival-taken : (x : State) (call : Call) → arrivalUnknown x (call .arrival) ≡ false
+    → arrivalFull x (call .arrival) (call .request) ≡ false
+    → (n : ℕ) → Rules n x → ArrivalTaken x (earlyArrival x call)
+arrival-taken x call e f n v y s = (below, omega (arith, v .room (y .queue) below, eqb-false used all not-full))
   where
-    Taken : Byte → Type 0
-    Taken w =
-        (w .queue < x .sizes .Q)
-        × (tailBytes x (w .queue) + x .sizes .b * blocks x (w .queue) < x .sizes .K * x .sizes .b)
-
-    same : y ≡ z
-    same = cc
-
     used : ℕ
     used = tailBytes x (y .queue) + x .sizes .b * blocks x (y .queue)
 
@@ -62,7 +67,10 @@ arrival-taken x (some y) e f n v z s = subst Taken same
     all = x .sizes .K * x .sizes .b
 
     below : y .queue < x .sizes .Q
-    below = leb-false (x .sizes .Q) (y .queue) e
+    below = known-arrival x (call .arrival) e y (early-comes x call y s)
+
+    not-full : isFull x (y .queue) ≡ false
+    not-full = sym (five-as-before x call (early-swaps-not x call y s) y (early-comes x call y s)) ∙ f
 
 request-known : (x : State) (request : Option ℕ) → requestUnknown x request ≡ false
     → (q : ℕ) → request ≡ some q → q < x .sizes .Q
@@ -76,21 +84,46 @@ something-to-take x arrival request e q s t =
     (ap (nothingToTake x arrival) (sym s) ∙ e)))
     (λ u. u)
 
-tail-takes : (x : State) (arrival : Option Byte) → tailFull x arrival ≡ false
-    → (y : Byte) → arrival ≡ some y → length (x .tail) < tailSize (x .sizes)
-tail-takes x arrival e y s = leb-false (tailSize (x .sizes)) (length (x .tail)) (ap (tailFull x) (sym s) ∙ e)
+-- In a slot that swaps the byte is an old one.
+early-to-take : (x : State) (call : Call) → nothingToTake x (call .arrival) (call .request) ≡ false
+    → (q : ℕ) → call .request ≡ some q → isOwed x q ≡ false → 1 ≤ countOf q (x .tail ++ arriving (earlyArrival x call))
+early-to-take x call e q s f =
+    by-test (swaps x (call .arrival) (call .request))
+    (λ t. let w = swap-facts x call t in
+    omega (
+      arith,
+      count-append q (x .tail) (arriving (earlyArrival x call)),
+      subst (λ (p : ℕ). 1 ≤ tailBytes x p) (some-inj (w .comes .queue) q (sym (w .request-is) ∙ s)) (w .byte-there),
+    ))
+    (λ t. subst (λ (a : Option Byte). 1 ≤ countOf q (x .tail ++ arriving a)) (sym (early-is x call t))
+    (something-to-take x (call .arrival) (call .request) e q s f))
+
+tail-takes : (x : State) (call : Call) → tailFull x (call .arrival) (call .request) ≡ false
+    → (y : Byte) → earlyArrival x call ≡ some y → length (x .tail) < tailSize (x .sizes)
+tail-takes x call e y s =
+    leb-false (tailSize (x .sizes)) (length (x .tail))
+    (ap (λ (l : List Byte). leb (tailSize (x .sizes)) (length l)) (sym (nine-as-before x call no-swap))
+    ∙ ap (λ (a : Option Byte). leb (tailSize (x .sizes)) (length (tailFound x a (call .request)))) comes
+    ∙ ap (λ (a : Option Byte). tailFull x a (call .request)) (sym comes)
+    ∙ e)
+  where
+    no-swap : swaps x (call .arrival) (call .request) ≡ false
+    no-swap = early-swaps-not x call y s
+
+    comes : call .arrival ≡ some y
+    comes = early-comes x call y s
 
 module _ (design : Design) (x : State) (store : List ℕ) (call : Call) where
   pub judged-facts : firstRefusal (earlyRefusals design x store call) ≡ 0 → Judged design x store call
   judged-facts e = record {
     kept = rules-kept;
     store-long = ltb-false (length store) (storeBytes (x .sizes)) (when-zero _ 1 (none-at 1));
-    arrival-ok = arrival-taken x (call .arrival) (when-zero _ 3 (none-at 2)) (when-zero _ 4 (none-at 3)) _
-        (rules-kept .within);
+    arrival-known = known-arrival x (call .arrival) (when-zero _ 3 (none-at 2));
+    arrival-ok = arrival-taken x call (when-zero _ 3 (none-at 2)) (when-zero _ 4 (none-at 3)) _ (rules-kept .within);
     request-ok = request-known x (call .request) (when-zero _ 5 (none-at 4));
-    byte-there = something-to-take x (call .arrival) (call .request) (when-zero _ 6 (none-at 5));
+    byte-there = early-to-take x call (when-zero _ 6 (none-at 5));
     covered = when-zero _ 7 (none-at 6);
-    tail-room = tail-takes x (call .arrival) (when-zero _ 8 (none-at 7));
+    tail-room = tail-takes x call (when-zero _ 8 (none-at 7));
   }
     where
       none-at : (i : ℕ) → getD (earlyRefusals design x store call) i 0 ≡ 0

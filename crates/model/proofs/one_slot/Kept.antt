@@ -1,7 +1,7 @@
 -- An accepted slot keeps the rules of the state and the store's length. It rests on the refusals alone, so it holds
 -- from every state that keeps the rules and for any number of cells. `slot-kept` says it.
 use mathlib.Core.Path.{_≡_, refl, ap, sym, _∙_, subst}
-use mathlib.Core.Bool.{false}
+use mathlib.Core.Bool.{Bool, false}
 use mathlib.Core.List.{List, [], _∷_, _++_}
 use mathlib.Core.Option.{Option, some, none}
 use Prim.Native.Nat.{ℕ, suc, _+_, _-_, _<_, _≤_}
@@ -14,10 +14,12 @@ use borrow.Author.Tests.{eqb-false, ltb-true, ltb-false}
 use Rattle.model.specs.Basics.{choose}
 use Rattle.model.specs.Sizes.{Design, tailSize, headSize, storeBytes, blockPlace}
 use Rattle.model.specs.State.{Byte, Cell, empty, held, owed, State, valuesOf, tailBytes, headBytes, ringOf}
-use Rattle.model.specs.Slot.{Call, oldestCell, headWithout, afterDelivery, arriving, moves, queueToWrite}
+use Rattle.model.specs.Slot.{Call, oldestCell, headWithout, afterDelivery, arriving, afterRequest, moves}
+use Rattle.model.specs.Slot.{queueToWrite, swaps, earlyArrival, lateArrival}
 use Rattle.model.specs.Slot.{nextBlock, placed, tailWritten, storeWritten, refillQueue, queueToRead, blockAt}
 use Rattle.model.specs.Slot.{bytesFor, headRead, joined, asked, wrote, wroteStore, refilled, headFull, Answer}
 use Rattle.model.specs.Slot.{accept, slot}
+use Rattle.model.specs.Lists.{joinedFillOf}
 use Rattle.model.proofs.basics.Tests.{by-test, none-not-some}
 use Rattle.model.proofs.basics.Bytes.{length-for, length-without-le}
 use Rattle.model.proofs.meaning.Fullest.{IsFullest, fullest-some}
@@ -26,7 +28,8 @@ use Rattle.model.proofs.basics.Rings.{place-fits, block-length}
 use Rattle.model.proofs.one_slot.Rules.{Rules, Keeps}
 use Rattle.model.proofs.one_slot.MovesKeepRules.{WriteTaken, ReadTaken, rules-wrote, scan-taken, rules-read}
 use Rattle.model.proofs.one_slot.MovesKeepRules.{rules-phase}
-use Rattle.model.proofs.one_slot.StepsKeepRules.{rules-delivered, rules-arrived, rules-asked, length-tail-left}
+use Rattle.model.proofs.one_slot.StepsKeepRules.{rules-delivered, rules-arrived, rules-asked}
+use Rattle.model.proofs.one_slot.Swap.{swap-looked-at, asked-no-longer, late-taken}
 use Rattle.model.proofs.one_slot.Accepted.{Judged, Accepted, RefusedOrAccepted, was-refused, was-accepted}
 use Rattle.model.proofs.one_slot.Accepted.{outcome}
 
@@ -151,15 +154,35 @@ module _ (design : Design) (x : State) (store : List ℕ) (call : Call)
       (subst (λ (n : ℕ). Rules n x) (let e : cellsFull ≡ suc (cellsFull - 1) = omega arith in e) (j .kept .within))
 
   pub rules-2 : Rules (cellsFull - 1) (joined x call)
-  rules-2 = rules-arrived (cellsFull - 1) (afterDelivery x) (call .arrival) (j .arrival-ok) rules-1
+  rules-2 = rules-arrived (cellsFull - 1) (afterDelivery x) (earlyArrival x call) (j .arrival-ok) rules-1
 
   pub tail-joined : length (joined x call .tail) ≤ tailSize (x .sizes)
-  tail-joined = length-joined x (call .arrival) (j .kept .tail-fits) (j .tail-room)
+  tail-joined = length-joined x (earlyArrival x call) (j .kept .tail-fits) (j .tail-room)
+
+  -- After the request, and after the byte that joins behind it.
+  abbrev requested : State
+  requested = afterRequest (call .request) (joined x call)
+
+  rules-requested : Rules cellsFull requested
+  rules-requested =
+      subst (λ (n : ℕ). Rules n requested) (let e : suc (cellsFull - 1) ≡ cellsFull = omega arith in e)
+      (rules-asked (cellsFull - 1) (joined x call) (call .request) (j .request-ok) rules-2)
 
   pub rules-3 : Rules cellsFull (asked x call)
   rules-3 =
-      subst (λ (n : ℕ). Rules n (asked x call)) (let e : suc (cellsFull - 1) ≡ cellsFull = omega arith in e)
-      (rules-asked (cellsFull - 1) (joined x call) (call .request) (j .request-ok) rules-2)
+      rules-arrived cellsFull requested (lateArrival x call) (late-taken x call (j .covered) (j .arrival-known))
+      rules-requested
+
+  pub tail-asked-fits : length (asked x call .tail) ≤ tailSize (x .sizes)
+  tail-asked-fits = omega (arith, asked-no-longer x call (j .covered), tail-joined)
+
+  -- The tail as it is looked at.
+  pub looked-at-fits : joinedFillOf 0 x call ≤ tailSize (x .sizes)
+  looked-at-fits =
+      by-test (swaps x (call .arrival) (call .request))
+      (λ t. omega (arith, swap-looked-at x call t (j .covered), j .kept .tail-fits))
+      (λ t. subst (λ (b : Bool). length (choose b (asked x call .tail) (joined x call .tail)) ≤ tailSize (x .sizes))
+      (sym t) tail-joined)
 
   pub rules-written : Rules cellsFull (wrote x call)
   rules-written = rules-wrote cellsFull (asked x call) (queueToWrite (asked x call))
@@ -227,9 +250,9 @@ module _ (design : Design) (x : State) (store : List ℕ) (call : Call)
       phase-ok = next-phase x (j .kept .phase-ok);
       within = rules-phase (design .cellCount (x .sizes)) (refilled x store call)
           (rules-refilled design x store call cells-ok j);
-      tail-fits = omega (arith, tail-low, joined-fits);
+      tail-fits = omega (arith, tail-low, asked-fits);
       head-fits = head-fits′;
-      tail-mark = (omega (arith, tail-low), omega (arith, joined-fits, j .kept .tail-mark));
+      tail-mark = (omega (arith, tail-low), omega (arith, joined-fits, asked-fits, j .kept .tail-mark));
       head-mark = (omega arith, omega (arith, head-fits′, j .kept .head-mark));
     };
     same-sizes = refl;
@@ -242,13 +265,11 @@ module _ (design : Design) (x : State) (store : List ℕ) (call : Call)
       joined-fits : length (joined x call .tail) ≤ tailSize (x .sizes)
       joined-fits = tail-joined design x store call cells-ok j
 
-      tail-low : length (wrote x call .tail) ≤ length (joined x call .tail)
-      tail-low =
-          omega (
-            arith,
-            length-tail-written (asked x call) (queueToWrite (asked x call)),
-            length-tail-left (joined x call) (call .request),
-          )
+      asked-fits : length (asked x call .tail) ≤ tailSize (x .sizes)
+      asked-fits = tail-asked-fits design x store call cells-ok j
+
+      tail-low : length (wrote x call .tail) ≤ length (asked x call .tail)
+      tail-low = length-tail-written (asked x call) (queueToWrite (asked x call))
 
       head-fits′ : length (refilled x store call .head) ≤ headSize (x .sizes)
       head-fits′ =

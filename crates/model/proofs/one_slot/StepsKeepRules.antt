@@ -9,13 +9,13 @@ use Prim.Native.Nat.{ℕ, suc, _+_, _-_, _*_, _<_, _≤_}
 use native.Mathlib.Omega.{arith}
 use lib.Dec.{eqb}
 use lib.ListN.{length, drop, length-append, length-drop}
-use borrow.Author.Tests.{eqb-true, ltb-true}
+use borrow.Author.Tests.{eqb-true, eqb-false, ltb-true}
 use Rattle.model.specs.Basics.{choose}
 use Rattle.model.specs.State.{Byte, Cell, empty, held, owed, State, countOf, owes, owedOf, tailBytes, headBytes}
 use Rattle.model.specs.State.{owedCells, blocks}
-use Rattle.model.specs.Slot.{oldestCell, headWithout, afterDelivery, afterArrival, isOwed, heldCell, youngestCell}
-use Rattle.model.specs.Slot.{tailLeft, oldestOf, afterRequest}
-use Rattle.model.proofs.basics.Tests.{by-test}
+use Rattle.model.specs.Slot.{oldestCell, headWithout, afterDelivery, arriving, afterArrival, isOwed, heldCell}
+use Rattle.model.specs.Slot.{youngestCell, tailLeft, oldestOf, afterRequest, leavesUncovered}
+use Rattle.model.proofs.basics.Tests.{by-test, positive}
 use Rattle.model.proofs.basics.AllOf.{all-append}
 use Rattle.model.proofs.basics.Bytes.{Below, below-without, length-without-le, count-append, count-one-same}
 use Rattle.model.proofs.basics.Bytes.{count-one-other, count-without}
@@ -56,7 +56,35 @@ rules-delivered n x v = record {
   );
 }
 
+-- A queue's Owed cells and head bytes fall together as the oldest cell leaves, so a request is Owed before and after
+-- alike.
+pub owed-after-delivery : (x : State) (q : ℕ) → leavesUncovered (oldestCell (x .cells)) x ≡ false
+    → owedCells x q + headBytes (afterDelivery x) q ≡ owedCells (afterDelivery x) q + headBytes x q
+owed-after-delivery x q e = go (oldestCell (x .cells)) e (owed-oldest (x .cells) q)
+    (count-head-without (oldestCell (x .cells)) (x .head) q)
+  where
+    go : (c : Cell) → leavesUncovered c x ≡ false
+        → owedCells x q ≡ owes q c + owedOf q (drop 1 (x .cells))
+        → countOf q (headWithout c (x .head)) ≡ headBytes x q - owes q c
+        → owedCells x q + countOf q (headWithout c (x .head)) ≡ owedOf q (drop 1 (x .cells)) + headBytes x q
+    go empty e f g = omega arith
+    go (held p v) e f g = omega arith
+    go (owed p) e f g =
+        by-test (eqb p q)
+        (λ t. omega (
+          arith,
+          rw t at f,
+          rw t at g,
+          subst (λ (i : ℕ). 1 ≤ headBytes x i) (eqb-true p q t)
+              (positive (headBytes x p) (eqb-false (headBytes x p) 0 e)),
+        ))
+        (λ t. omega (arith, rw t at f, rw t at g))
+
 -- 2. The arriving byte joins the tail: its queue is one of the Q, and has room.
+pub length-arriving : (arrival : Option Byte) → length (arriving arrival) ≤ 1
+length-arriving none = omega arith
+length-arriving (some y) = omega arith
+
 abbrev pub ArrivalTaken : State → Option Byte → Type 0
 ArrivalTaken x arrival =
     (y : Byte) → arrival ≡ some y

@@ -20,7 +20,7 @@ abbrev start : tie.After-deliver → tie.Start
 start c = c .before .before .before .before
 
 abbrev delivered : tie.After-arrive → tie.After-deliver
-delivered c = c .before .before
+delivered c = c .before .before .before
 
 abbrev arrived : tie.After-ask → tie.After-arrive
 arrived c = c .before .before
@@ -28,8 +28,11 @@ arrived c = c .before .before
 abbrev asked : tie.After-shift → tie.After-ask
 asked c = c .before .before .before .before
 
-abbrev shifted : tie.After-write → tie.After-shift
-shifted c = c .before .before .before .before .before
+abbrev shifted : tie.After-arrive2 → tie.After-shift
+shifted c = c .before .before .before
+
+abbrev filled : tie.After-write → tie.After-arrive2
+filled c = c .before .before .before .before .before
 
 abbrev written : tie.After-read → tie.After-write
 written c = c .before .before .before .before .before .before .before
@@ -45,9 +48,12 @@ deliver-requires c κs =
       steps.byte-to-deliver (s .args .regs) (memory s) (s .pre .0) d,
     )
 
+early-arrival-requires : tie.Need-early-arrival-requires
+early-arrival-requires c κs = search needs
+
 arrive-requires : tie.Need-arrive-requires
 arrive-requires c κs =
-    let s = start (c .before) in
+    let s = start (c .before .before) in
     let inside = steps.tail-in (s .args .regs) (memory s) (s .pre .0) (s .pre .1) in
     (omega (arith, inside), λ y e. inside)
 
@@ -57,9 +63,10 @@ ask-requires c κs =
     let gave = delivered joined in
     let s = start gave in
     let s1 = gave .deliver .ensures in
+    let early = joined .before .before .early-arrival .ensures in
     let s2 = joined .arrive .ensures in (
-      steps.joined-in (s .args .regs) (memory s) (s .pre .0) (s .pre .1) s1 s2,
-      steps.byte-to-hold (s .args .regs) (memory s) (s .pre .0) (s .pre .1) s1 s2,
+      steps.joined-in (s .args .regs) (memory s) (s .pre .0) (s .pre .1) early s1 s2,
+      steps.byte-to-hold (s .args .regs) (memory s) (s .pre .0) (s .pre .1) early s1 s2,
     )
 
 sub-shift : tie.Need-sub-shift
@@ -82,55 +89,83 @@ shift-requires c κs =
     let s = start (delivered (arrived (c .before .before .before))) in
     (omega arith, steps.cells-fit (s .args .regs) (memory s) (s .pre .0) (s .pre .1))
 
-write-requires : tie.Need-write-requires
-write-requires c κs =
-    let moved = c .before .before .before .before in
+late-arrival-requires : tie.Need-late-arrival-requires
+late-arrival-requires c κs = search needs
+
+arrive-requires-2 : tie.Need-arrive-requires-2
+arrive-requires-2 c κs =
+    let moved = c .before .before in
     let owed = asked moved in
     let joined = arrived owed in
     let gave = delivered joined in
     let s = start gave in
     let s1 = gave .deliver .ensures in
+    let early = joined .before .before .early-arrival .ensures in
+    let s2 = joined .arrive .ensures in
+    let s3 = owed .ask .ensures in
+    let s4 = moved .shift .ensures in (
+      steps.asked-in (s .args .regs) (memory s) (s .pre .0) (s .pre .1) early s1 s2 s3 s4,
+      steps.late-in (s .args .regs) (memory s) (s .pre .0) (s .pre .1) early s1 s2 s3 s4
+          (c .before .late-arrival .ensures),
+    )
+
+write-requires : tie.Need-write-requires
+write-requires c κs =
+    let full = c .before .before .before .before in
+    let moved = shifted full in
+    let owed = asked moved in
+    let joined = arrived owed in
+    let gave = delivered joined in
+    let s = start gave in
+    let s1 = gave .deliver .ensures in
+    let early = joined .before .before .early-arrival .ensures in
     let s2 = joined .arrive .ensures in
     let s3 = owed .ask .ensures in
     let s4 = moved .shift .ensures in
+    let late = full .before .before .late-arrival .ensures in
+    let s5 = full .arrive2 .ensures in
     let d = s .pre .1 in (
-      steps.asked-in (s .args .regs) (memory s) (s .pre .0) d s1 s2 s3 s4,
+      steps.filled-in (s .args .regs) (memory s) (s .pre .0) d early s1 s2 s3 s4 late s5,
       steps.sizes-ok (s .args .regs) (memory s) (s .pre .0) d,
       steps.judged (s .args .regs) (memory s) (s .pre .0) d .store-long,
       s .pre .0 .firsts-long,
       s .pre .0 .stored-long,
-      steps.block-to-write (s .args .regs) (memory s) (s .pre .0) d s1 s2 s3 s4,
+      steps.block-to-write (s .args .regs) (memory s) (s .pre .0) d early s1 s2 s3 s4 late s5,
     )
 
 read-requires : tie.Need-read-requires
 read-requires c κs =
     let wrote = c .before .before .before .before .before .before in
-    let moved = shifted wrote in
+    let full = filled wrote in
+    let moved = shifted full in
     let owed = asked moved in
     let joined = arrived owed in
     let gave = delivered joined in
     let s = start gave in
     let s1 = gave .deliver .ensures in
+    let early = joined .before .before .early-arrival .ensures in
     let s2 = joined .arrive .ensures in
     let s3 = owed .ask .ensures in
     let s4 = moved .shift .ensures in
-    let s5 = wrote .write .ensures in
+    let late = full .before .before .late-arrival .ensures in
+    let s5 = full .arrive2 .ensures in
+    let s6 = wrote .write .ensures in
     let d = s .pre .1 in (
-      steps.head-still-in (s .args .regs) (memory s) (s .pre .0) d s1 s2 s3 s4 s5,
+      steps.head-still-in (s .args .regs) (memory s) (s .pre .0) d early s1 s2 s3 s4 late s5 s6,
       steps.sizes-ok (s .args .regs) (memory s) (s .pre .0) d,
       omega (
         arith,
         steps.judged (s .args .regs) (memory s) (s .pre .0) d .store-long,
-        steps.same-store (s .args .regs) (memory s) (s .pre .0) d s1 s2 s3 s4 s5,
+        steps.same-store (s .args .regs) (memory s) (s .pre .0) d early s1 s2 s3 s4 late s5 s6,
       ),
       s .pre .0 .firsts-long,
-      s5 .stored-long ∙ s .pre .0 .stored-long,
-      steps.block-to-read (s .args .regs) (memory s) (s .pre .0) d s1 s2 s3 s4 s5,
+      s6 .stored-long ∙ s .pre .0 .stored-long,
+      steps.block-to-read (s .args .regs) (memory s) (s .pre .0) d early s1 s2 s3 s4 late s5 s6,
     )
 
 next-phase-requires : tie.Need-next-phase-requires
 next-phase-requires c κs =
-    let s = start (delivered (arrived (asked (shifted (written c))))) in
+    let s = start (delivered (arrived (asked (shifted (filled (written c)))))) in
     steps.judged (s .args .regs) (memory s) (s .pre .0) (s .pre .1) .kept .phase-ok
 
 larger-requires : tie.Need-larger-requires
@@ -146,34 +181,38 @@ returns : tie.Need-returns
 returns c =
     let read = c .before .before .before in
     let wrote = written read in
-    let moved = shifted wrote in
+    let full = filled wrote in
+    let moved = shifted full in
     let owed = asked moved in
     let joined = arrived owed in
     let gave = delivered joined in
     let s = start gave in
     let s1 = gave .deliver .ensures in
+    let early = joined .before .before .early-arrival .ensures in
     let s2 = joined .arrive .ensures in
     let s3 = owed .ask .ensures in
     let s4 = moved .shift .ensures in
-    let s5 = wrote .write .ensures in
-    let s6 = read .read .ensures in
+    let late = full .before .before .late-arrival .ensures in
+    let s5 = full .arrive2 .ensures in
+    let s6 = wrote .write .ensures in
+    let s7 = read .read .ensures in
     let d = s .pre .1 in
-    let head-is = steps.head-2 (s .args .regs) (memory s) (s .pre .0) d s1 s2 s3 s4 s5 s6 in
+    let head-is = steps.head-2 (s .args .regs) (memory s) (s .pre .0) d early s1 s2 s3 s4 late s5 s6 s7 in
     record {
-      state-is = steps.state-after (s .args .regs) (memory s) (s .pre .0) d s1 s2 s3 s4 s5 s6
+      state-is = steps.state-after (s .args .regs) (memory s) (s .pre .0) d early s1 s2 s3 s4 late s5 s6 s7
           (c .before .before .next-phase .ensures)
           (c .before .larger .ensures)
           (c .larger2 .ensures)
-          (steps.joined-length (s .args .regs) (memory s) (s .pre .0) d s1 s2)
-          (sym (bytes-length _ _ (s6 .fits)) ∙ ap length head-is);
-      delivery-is = steps.delivered (s .args .regs) (memory s) (s .pre .0) d s1 s2;
-      store-is = steps.store-1 (s .args .regs) (memory s) (s .pre .0) d s1 s2 s3 s4 s5;
+          (steps.joined-length (s .args .regs) (memory s) (s .pre .0) d early s1 s2)
+          (sym (bytes-length _ _ (s7 .fits)) ∙ ap length head-is);
+      delivery-is = steps.delivered (s .args .regs) (memory s) (s .pre .0) d early s1 s2;
+      store-is = steps.store-1 (s .args .regs) (memory s) (s .pre .0) d early s1 s2 s3 s4 late s5 s6;
       long = record {
-        tail-long = s5 .same-length ∙ s3 .same-length ∙ s2 .same-length ∙ s .pre .0 .tail-long;
-        head-long = s6 .same-length ∙ s1 .same-length ∙ s .pre .0 .head-long;
+        tail-long = s6 .same-length ∙ s5 .same-length ∙ s3 .same-length ∙ s2 .same-length ∙ s .pre .0 .tail-long;
+        head-long = s7 .same-length ∙ s1 .same-length ∙ s .pre .0 .head-long;
         cells-long = s4 .same-length ∙ s .pre .0 .cells-long;
-        firsts-long = s6 .firsts-long ∙ s .pre .0 .firsts-long;
-        stored-long = s6 .stored-long ∙ s5 .stored-long ∙ s .pre .0 .stored-long;
+        firsts-long = s7 .firsts-long ∙ s .pre .0 .firsts-long;
+        stored-long = s7 .stored-long ∙ s6 .stored-long ∙ s .pre .0 .stored-long;
       };
     }
 
@@ -183,12 +222,15 @@ carry-spec =
     (tie.spec
     element-copy-out-cell
     deliver-requires
+    early-arrival-requires
     arrive-requires
     ask-requires
     sub-shift
     mul-shift
     add-shift
     shift-requires
+    late-arrival-requires
+    arrive-requires-2
     write-requires
     read-requires
     next-phase-requires

@@ -11,9 +11,11 @@ judge-arrival-requires c κs = search needs
 
 returns : tie.Need-returns
 returns c =
-    let a = c .before .before .before .before .args in
-    early-of-arrival (a .regs) (a .tails .now) (a .heads .now) (a .stored .now) (a .owes) (cellOf (a .cell))
-    (callIn (a .arrival) (a .request)) (c .before .judge-arrival .ensures) (c .if1 .taken)
+    let first = c .before in
+    let a = first .before .args in
+    early-of-arrival (a .regs) (a .tails .now) (a .heads .now) (a .stored .now) (a .owes)
+    (first .judge-arrival .result .swaps) (cellOf (a .cell)) (callIn (a .arrival) (a .request))
+    (first .judge-arrival .ensures) (c .if1 .taken)
 
 judge-request-requires : tie.Need-judge-request-requires
 judge-request-requires c κs = search needs
@@ -21,10 +23,11 @@ judge-request-requires c κs = search needs
 returns-2 : tie.Need-returns-2
 returns-2 c =
     let judged = c .before .before in
-    let a = judged .before .before .before .before .args in
-    early-of-request (a .regs) (a .tails .now) (a .heads .now) (a .stored .now) (a .owes) (cellOf (a .cell))
-    (callIn (a .arrival) (a .request)) (judged .before .judge-arrival .ensures) (judged .if1 .left)
-    (c .before .judge-request .ensures) (c .if2 .taken)
+    let first = judged .before in
+    let a = first .before .args in
+    early-of-request (a .regs) (a .tails .now) (a .heads .now) (a .stored .now) (a .owes)
+    (first .judge-arrival .result .swaps) (cellOf (a .cell)) (callIn (a .arrival) (a .request))
+    (first .judge-arrival .ensures) (judged .if1 .left) (c .before .judge-request .ensures) (c .if2 .taken)
 
 judge-leaving-requires : tie.Need-judge-leaving-requires
 judge-leaving-requires c κs = search needs
@@ -33,10 +36,11 @@ returns-3 : tie.Need-returns-3
 returns-3 c =
     let asked = c .before .before in
     let judged = asked .before .before in
-    let a = judged .before .before .before .before .args in
-    early-of-leaving (a .regs) (a .tails .now) (a .heads .now) (a .stored .now) (a .owes) (cellOf (a .cell))
-    (callIn (a .arrival) (a .request)) (judged .before .judge-arrival .ensures) (judged .if1 .left)
-    (asked .before .judge-request .ensures) (asked .if2 .left)
+    let first = judged .before in
+    let a = first .before .args in
+    early-of-leaving (a .regs) (a .tails .now) (a .heads .now) (a .stored .now) (a .owes)
+    (first .judge-arrival .result .swaps) (cellOf (a .cell)) (callIn (a .arrival) (a .request))
+    (first .judge-arrival .ensures) (judged .if1 .left) (asked .before .judge-request .ensures) (asked .if2 .left)
     (c .before .judge-leaving .ensures) (c .if3 .taken)
 
 judge-tail-requires : tie.Need-judge-tail-requires
@@ -47,10 +51,11 @@ returns-4 c =
     let left = c .before in
     let asked = left .before .before in
     let judged = asked .before .before in
-    let a = judged .before .before .before .before .args in
-    early-of-tail (a .regs) (a .tails .now) (a .heads .now) (a .stored .now) (a .owes) (cellOf (a .cell))
-    (callIn (a .arrival) (a .request)) (judged .before .judge-arrival .ensures) (judged .if1 .left)
-    (asked .before .judge-request .ensures) (asked .if2 .left)
+    let first = judged .before in
+    let a = first .before .args in
+    early-of-tail (a .regs) (a .tails .now) (a .heads .now) (a .stored .now) (a .owes)
+    (first .judge-arrival .result .swaps) (cellOf (a .cell)) (callIn (a .arrival) (a .request))
+    (first .judge-arrival .ensures) (judged .if1 .left) (asked .before .judge-request .ensures) (asked .if2 .left)
     (left .before .judge-leaving .ensures) (left .if3 .left) (c .judge-tail .ensures)
 
 pub judge-early-spec : {M : Type 1} → statement M

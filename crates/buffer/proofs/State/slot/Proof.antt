@@ -39,7 +39,7 @@ abbrev accepted : tie.After-deliver → tie.Else1
 accepted c = c .before .before .before
 
 abbrev delivered : tie.After-arrive → tie.After-deliver
-delivered c = c .before .before
+delivered c = c .before .before .before
 
 abbrev arrived : tie.After-ask → tie.After-arrive
 arrived c = c .before .before
@@ -50,8 +50,11 @@ to-shift c = accepted (delivered (arrived (c .before .before)))
 abbrev asked : tie.After-shift-cells → tie.After-ask
 asked c = c .before .before .before .before
 
-abbrev shifted : tie.After-write → tie.After-shift-cells
-shifted c = c .before .before .before .before .before .before .before
+abbrev shifted : tie.After-arrive2 → tie.After-shift-cells
+shifted c = c .before .before .before
+
+abbrev filled : tie.After-write → tie.After-arrive2
+filled c = c .before .before .before .before .before .before .before
 
 abbrev written : tie.After-read → tie.After-write
 written c = c .before .before .before .before .before .before .before
@@ -61,8 +64,8 @@ arrays-long s = search needs
 
 -- What is decided of a slot that goes on.
 decision : (c : tie.Else1) → Decided (stateOf (state (start (planned c)))) (store (start (planned c)))
-    (call (start (planned c))) (planned c .plan .result .owes) (chosenIn (planned c .plan .result .written))
-    (chosenIn (planned c .plan .result .read))
+    (call (start (planned c))) (planned c .plan .result .owes) (planned c .plan .result .swaps)
+    (chosenIn (planned c .plan .result .written)) (chosenIn (planned c .plan .result .read))
 decision c = planned c .plan .ensures .decided (c .if1 .left) (store (start (planned c))) refl
 
 plan-requires : tie.Need-plan-requires
@@ -86,9 +89,12 @@ deliver-requires c κs =
       steps.byte-to-deliver (state s .regs) (arraysOf (state s)) long (decision on),
     )
 
+early-arrival-requires : tie.Need-early-arrival-requires
+early-arrival-requires c κs = search needs
+
 arrive-requires : tie.Need-arrive-requires
 arrive-requires c κs =
-    let on = accepted (c .before) in
+    let on = accepted (c .before .before) in
     let s = start (planned on) in
     let inside = steps.tail-in (state s .regs) (arraysOf (state s)) (arrays-long s) (decision on) in
     (omega (arith, inside), λ y e. inside)
@@ -101,9 +107,10 @@ ask-requires c κs =
     let s = start (planned on) in
     let long = arrays-long s in
     let s1 = gave .deliver .ensures in
+    let early = joined .before .before .early-arrival .ensures in
     let s2 = joined .arrive .ensures in (
-      steps.joined-in (state s .regs) (arraysOf (state s)) long (decision on) s1 s2,
-      steps.byte-to-hold (state s .regs) (arraysOf (state s)) long (decision on) s1 s2,
+      steps.joined-in (state s .regs) (arraysOf (state s)) long (decision on) early s1 s2,
+      steps.byte-to-hold (state s .regs) (arraysOf (state s)) long (decision on) early s1 s2,
     )
 
 sub-shift-cells : tie.Need-sub-shift-cells
@@ -130,9 +137,12 @@ shift-cells-requires c κs =
     let s = start (planned on) in
     (omega arith, steps.cells-fit (state s .regs) (arraysOf (state s)) (arrays-long s) (decision on))
 
-write-requires : tie.Need-write-requires
-write-requires c κs =
-    let moved = c .before .before .before .before .before .before in
+late-arrival-requires : tie.Need-late-arrival-requires
+late-arrival-requires c κs = search needs
+
+arrive-requires-2 : tie.Need-arrive-requires-2
+arrive-requires-2 c κs =
+    let moved = c .before .before in
     let owed = asked moved in
     let joined = arrived owed in
     let gave = delivered joined in
@@ -143,21 +153,47 @@ write-requires c κs =
     let long = arrays-long s in
     let d = decision on in
     let s1 = gave .deliver .ensures in
+    let early = joined .before .before .early-arrival .ensures in
     let s2 = joined .arrive .ensures in
     let s3 = owed .ask .ensures in
     let s4 = moved .shift-cells .ensures in (
-      steps.asked-in regs m long d s1 s2 s3 s4,
+      steps.asked-in regs m long d early s1 s2 s3 s4,
+      steps.late-in regs m long d early s1 s2 s3 s4 (c .before .late-arrival .ensures),
+    )
+
+write-requires : tie.Need-write-requires
+write-requires c κs =
+    let full = c .before .before .before .before .before .before in
+    let moved = shifted full in
+    let owed = asked moved in
+    let joined = arrived owed in
+    let gave = delivered joined in
+    let on = accepted gave in
+    let s = start (planned on) in
+    let regs = state s .regs in
+    let m = arraysOf (state s) in
+    let long = arrays-long s in
+    let d = decision on in
+    let s1 = gave .deliver .ensures in
+    let early = joined .before .before .early-arrival .ensures in
+    let s2 = joined .arrive .ensures in
+    let s3 = owed .ask .ensures in
+    let s4 = moved .shift-cells .ensures in
+    let late = full .before .before .late-arrival .ensures in
+    let s5 = full .arrive2 .ensures in (
+      steps.filled-in regs m long d early s1 s2 s3 s4 late s5,
       steps.sizes-ok regs m long d,
       steps.judged regs m long d .store-long,
       long .firsts-long,
       long .stored-long,
-      steps.block-to-write regs m long d s1 s2 s3 s4,
+      steps.block-to-write regs m long d early s1 s2 s3 s4 late s5,
     )
 
 read-requires : tie.Need-read-requires
 read-requires c κs =
     let wrote = c .before .before .before .before .before .before in
-    let moved = shifted wrote in
+    let full = filled wrote in
+    let moved = shifted full in
     let owed = asked moved in
     let joined = arrived owed in
     let gave = delivered joined in
@@ -168,21 +204,28 @@ read-requires c κs =
     let long = arrays-long s in
     let d = decision on in
     let s1 = gave .deliver .ensures in
+    let early = joined .before .before .early-arrival .ensures in
     let s2 = joined .arrive .ensures in
     let s3 = owed .ask .ensures in
     let s4 = moved .shift-cells .ensures in
-    let s5 = wrote .write .ensures in (
-      steps.head-still-in regs m long d s1 s2 s3 s4 s5,
+    let late = full .before .before .late-arrival .ensures in
+    let s5 = full .arrive2 .ensures in
+    let s6 = wrote .write .ensures in (
+      steps.head-still-in regs m long d early s1 s2 s3 s4 late s5 s6,
       steps.sizes-ok regs m long d,
-      omega (arith, steps.judged regs m long d .store-long, steps.same-store regs m long d s1 s2 s3 s4 s5),
+      omega (
+        arith,
+        steps.judged regs m long d .store-long,
+        steps.same-store regs m long d early s1 s2 s3 s4 late s5 s6,
+      ),
       long .firsts-long,
-      s5 .stored-long ∙ long .stored-long,
-      steps.block-to-read regs m long d s1 s2 s3 s4 s5,
+      s6 .stored-long ∙ long .stored-long,
+      steps.block-to-read regs m long d early s1 s2 s3 s4 late s5 s6,
     )
 
 next-phase-requires : tie.Need-next-phase-requires
 next-phase-requires c κs =
-    let on = accepted (delivered (arrived (asked (shifted (written c))))) in
+    let on = accepted (delivered (arrived (asked (shifted (filled (written c)))))) in
     let s = start (planned on) in
     steps.judged (state s .regs) (arraysOf (state s)) (arrays-long s) (decision on) .kept .phase-ok
 
@@ -202,7 +245,8 @@ returns-2 c =
     let phase = tail-mark .before .before .before .before in
     let read = phase .before in
     let wrote = written read in
-    let moved = shifted wrote in
+    let full = filled wrote in
+    let moved = shifted full in
     let owed = asked moved in
     let joined = arrived owed in
     let gave = delivered joined in
@@ -213,20 +257,23 @@ returns-2 c =
     let long = arrays-long s in
     let d = decision on in
     let s1 = gave .deliver .ensures in
+    let early = joined .before .before .early-arrival .ensures in
     let s2 = joined .arrive .ensures in
     let s3 = owed .ask .ensures in
     let s4 = moved .shift-cells .ensures in
-    let s5 = wrote .write .ensures in
-    let s6 = read .read .ensures in
+    let late = full .before .before .late-arrival .ensures in
+    let s5 = full .arrive2 .ensures in
+    let s6 = wrote .write .ensures in
+    let s7 = read .read .ensures in
     carried-says (state s) (store s) (call s) (d .accepted) refl
-    (steps.state-after regs m long d s1 s2 s3 s4 s5 s6
+    (steps.state-after regs m long d early s1 s2 s3 s4 late s5 s6 s7
     (phase .next-phase .ensures)
     (tail-mark .larger .ensures)
     (head-mark .larger2 .ensures)
-    (steps.joined-length regs m long d s1 s2)
-    (sym (bytes-length _ _ (s6 .fits)) ∙ ap length (steps.head-2 regs m long d s1 s2 s3 s4 s5 s6)))
-    (steps.delivered regs m long d s1 s2) (d .written-is) (d .read-is)
-    (steps.store-1 regs m long d s1 s2 s3 s4 s5)
+    (steps.joined-length regs m long d early s1 s2)
+    (sym (bytes-length _ _ (s7 .fits)) ∙ ap length (steps.head-2 regs m long d early s1 s2 s3 s4 late s5 s6 s7)))
+    (steps.delivered regs m long d early s1 s2) (d .written-is) (d .read-is)
+    (steps.store-1 regs m long d early s1 s2 s3 s4 late s5 s6)
 
 pub slot-spec : {M : Type 1} → statement M
 slot-spec =
@@ -236,12 +283,15 @@ slot-spec =
     returns
     element-copy-out-cell
     deliver-requires
+    early-arrival-requires
     arrive-requires
     ask-requires
     sub-shift-cells
     mul-shift-cells
     add-shift-cells
     shift-cells-requires
+    late-arrival-requires
+    arrive-requires-2
     write-requires
     read-requires
     next-phase-requires

@@ -74,12 +74,18 @@ impl Model for Buffer {
         if store.len() < self.store_bytes {
             return Err(2);
         }
-        if let Some((queue, _)) = arrival {
-            if queue as usize >= self.sizes.queues {
+        let mut swaps = false;
+        if let Some((arriving, _)) = arrival {
+            if arriving as usize >= self.sizes.queues {
                 return Err(4);
             }
-            if self.queues[queue as usize].room == 0 {
-                return Err(5);
+            let Queue { room, unasked, .. } = self.queues[arriving as usize];
+            if room == 0 {
+                // Request 2.1: the byte of the tail that the request takes makes room for the one that arrives.
+                swaps = request == Some(arriving) && unasked == 0 && !self.tail.lacks(arriving);
+                if !swaps {
+                    return Err(5);
+                }
             }
         }
         let mut request_is_owed = false;
@@ -100,11 +106,8 @@ impl Model for Buffer {
             Cell::Held(queue, value) => words::delivered((queue, value)),
             Cell::Owed(queue, place) => words::delivered((queue, self.head.leave(place))),
         };
-        // 2. The arriving byte joins the tail.
-        if let Some((queue, value)) = arrival {
-            self.queues[queue as usize].room -= 1;
-            self.tail.join(queue, value);
-        }
+        // 2. The arriving byte joins the tail, in a swap only after the request: there may be no place for it before.
+        self.join(arrival.filter(|_| !swaps));
         // 3. The request takes the youngest cell, which lies where the oldest did.
         self.cells[self.oldest] = match request {
             None => Cell::Empty,
@@ -117,6 +120,7 @@ impl Model for Buffer {
                 Cell::Held(queue, self.tail.leave(queue))
             }
         };
+        self.join(arrival.filter(|_| swaps));
         self.oldest += 1;
         if self.oldest == self.cells.len() {
             self.oldest = 0;
@@ -137,6 +141,15 @@ impl Model for Buffer {
 }
 
 impl Buffer {
+    /// An arriving byte joins the tail.
+    #[inline]
+    fn join(&mut self, arrival: Arrival) {
+        if let Some((queue, value)) = arrival {
+            self.queues[queue as usize].room -= 1;
+            self.tail.join(queue, value);
+        }
+    }
+
     /// The fullest queue sends a block to its ring.
     #[inline]
     fn write(&mut self, store: &mut [u8]) -> Option<u16> {

@@ -59,22 +59,26 @@ impl Model for Buffer {
 
     #[inline]
     fn try_slot(&mut self, arrival: Arrival, request: Request, store: &mut [u8]) -> Result<u64, u8> {
-        let Sizes { block, depth, .. } = self.sizes;
+        let block = self.sizes.block;
 
         // Everything is judged before anything moves.
         if store.len() < self.sizes.store() {
             return Err(2);
         }
+        let mut swaps = false;
         if let Some((queue, _)) = arrival {
             let queue = self.queues.get(queue as usize).ok_or(4)?;
-            if queue.tail.len() + block * queue.blocks == depth * block {
-                return Err(5);
+            if queue.is_full(self.sizes) {
+                swaps = self.swaps(arrival, request);
+                if !swaps {
+                    return Err(5);
+                }
             }
         }
         let mut request_is_owed = false;
         if let Some(asked) = request {
             let queue = self.queues.get(asked as usize).ok_or(6)?;
-            request_is_owed = queue.head.len() + block * queue.blocks > queue.owed;
+            request_is_owed = queue.has_unasked(block);
             let arrives = arrival.is_some_and(|(queue, _)| queue == asked);
             if !request_is_owed && queue.tail.is_empty() && !arrives {
                 return Err(7);
@@ -87,7 +91,8 @@ impl Model for Buffer {
             }
             head_bytes -= 1;
         }
-        if arrival.is_some() && self.tail_bytes >= self.sizes.tail_cache() {
+        // In a swap the request has taken a byte out of the tail by then.
+        if arrival.is_some() && self.tail_bytes - usize::from(swaps) >= self.sizes.tail_cache() {
             return Err(9);
         }
         let moves = self.phase + 1 == block;
@@ -110,11 +115,9 @@ impl Model for Buffer {
                 from.head.pop_front().map(|value| (queue, value))
             }
         };
-        // 2. The arriving byte joins the tail.
-        if let Some((queue, value)) = arrival {
-            self.queues[queue as usize].tail.push_back(value);
-            self.tail_bytes += 1;
-            self.tail_mark = self.tail_mark.max(self.tail_bytes);
+        // 2. The arriving byte joins the tail, in a swap only after the request.
+        if !swaps {
+            self.join(arrival);
         }
         // 3. The request takes the youngest cell.
         let youngest = match request {
@@ -130,6 +133,9 @@ impl Model for Buffer {
             }
         };
         self.cells.push_back(youngest);
+        if swaps {
+            self.join(arrival);
+        }
         // 4. In the last phase, a write and then a read.  5. The phase rises by one.
         let mut written = None;
         if moves {
@@ -154,7 +160,40 @@ impl Model for Buffer {
     }
 }
 
+impl Queue {
+    /// Whether its tail bytes and blocks fill its K blocks.
+    fn is_full(&self, Sizes { block, depth, .. }: Sizes) -> bool {
+        self.tail.len() + block * self.blocks == depth * block
+    }
+
+    /// Whether a byte in the head or in the slow store is left to ask for, so that a request would be Owed.
+    fn has_unasked(&self, block: usize) -> bool {
+        self.head.len() + block * self.blocks > self.owed
+    }
+}
+
 impl Buffer {
+    /// Request 2.1: whether the slot reads and refills one full queue, by a request that is Held, for which the
+    /// tail has a byte already. Then the request comes before the arrival.
+    pub fn swaps(&self, arrival: Arrival, request: Request) -> bool {
+        let Some((arriving, _)) = arrival else { return false };
+        let Some(queue) = self.queues.get(arriving as usize) else { return false };
+        queue.is_full(self.sizes)
+            && request == Some(arriving)
+            && !queue.has_unasked(self.sizes.block)
+            && !queue.tail.is_empty()
+    }
+
+    /// An arriving byte joins the tail.
+    #[inline]
+    fn join(&mut self, arrival: Arrival) {
+        if let Some((queue, value)) = arrival {
+            self.queues[queue as usize].tail.push_back(value);
+            self.tail_bytes += 1;
+            self.tail_mark = self.tail_mark.max(self.tail_bytes);
+        }
+    }
+
     /// The queue of the first Owed cell that its queue's head bytes do not cover. `joining` is the queue of
     /// an Owed cell about to join. The cell about to leave is scanned with the rest: it is covered, and uses
     /// up the head byte that it delivers.

@@ -7,7 +7,8 @@ use crate::words::{call, number};
 use crate::Sizes;
 
 /// Stretches of changing habits, from filling a few queues to emptying them. Most calls make
-/// sense, some are for any queue, and a few for a queue that does not exist.
+/// sense, some are for any queue, and a few for a queue that does not exist. In some stretches a queue that
+/// can swap (request 2.1) is read and refilled.
 pub fn rough(sizes: Sizes, slots: usize, seed: u64) -> Vec<u64> {
     let random = &mut Random(seed);
     let Sizes { queues, block, depth } = sizes;
@@ -21,6 +22,8 @@ pub fn rough(sizes: Sizes, slots: usize, seed: u64) -> Vec<u64> {
         let (arrivals, requests) = random.pick(&habits);
         let first = random.below(queues);
         let span = random.pick(&[1, 2, queues]);
+        // The chance in percent that a queue which can swap is read and refilled.
+        let refills = random.pick(&[0, 50, 100]);
         for _ in 0..1 + random.below(sizes.lookahead() + 20) {
             let mut queue = |makes_sense: &dyn Fn(usize) -> bool| match random.below(100) {
                 // As a byte 256 would be queue 0, and so would 1,024 in the ten bits that an answer has for one.
@@ -30,8 +33,13 @@ pub fn rough(sizes: Sizes, slots: usize, seed: u64) -> Vec<u64> {
             };
             let arriving = queue(&|queue| unasked[queue] < depth * block);
             let asked = queue(&|queue| unasked[queue] > 0);
-            let arriving = arriving.filter(|_| random.percent(arrivals));
-            let asked = asked.filter(|_| random.percent(requests));
+            let mut arriving = arriving.filter(|_| random.percent(arrivals));
+            let mut asked = asked.filter(|_| random.percent(requests));
+            let swapping =
+                search(queues, first, |queue| buffer.swaps(Some((queue as u16, 0)), Some(queue as u16)));
+            if swapping.is_some() && random.percent(refills) {
+                (arriving, asked) = (swapping, swapping);
+            }
             let arrival = arriving.map(|queue| (queue as u16, random.byte()));
             let request = asked.map(|queue| queue as u16);
             let call = call(arrival, request);

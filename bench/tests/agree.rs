@@ -51,9 +51,15 @@ fn small_sizes() -> Vec<Sizes> {
     (0..40).map(|_| Sizes::new(size(8), size(8), size(6))).collect()
 }
 
-/// All of them, each with a seed.
+/// Of few blocks, so that queues are full while their bytes are in the tail.
+fn shallow_sizes() -> Vec<Sizes> {
+    let random = &mut Random(21);
+    (0..40).map(|_| Sizes::new(1 + random.below(8), 2 + random.below(7), 1 + random.below(2))).collect()
+}
+
+/// Small ones, shallow ones and the limits, each with a seed.
 fn many_sizes() -> impl Iterator<Item = (u64, Sizes)> {
-    (0..).zip(small_sizes().into_iter().chain(LIMITS))
+    (0..).zip(small_sizes().into_iter().chain(shallow_sizes()).chain(LIMITS))
 }
 
 /// The library's functions in turn on one buffer, a few slots with each.

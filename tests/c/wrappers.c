@@ -169,6 +169,27 @@ static void slots_refused(void) {
     CHECK(refused(gel_buffer_idle(&other, 5, other_store, STORE).last, 3));
 }
 
+/* A full queue that is read and refilled in one slot: 5 where its bytes are a block in store, and not where they are in
+ * the tail, which takes an idle slot before them. */
+static void full_queue_refilled(void) {
+    const gel_answer writes = {0, 0, 0, 1, 0, 0, 0, 0, 0, 0};
+    const gel_answer delivers = {0, 0, 1, 0, 0, 'a', 0, 0, 0, 0};
+    CHECK(gel_buffer_open(&other, 1, 2, 1) == 0);
+    CHECK(same(gel_buffer_slot(&other, gel_arrive(0, 'a'), other_store, 2), nothing));
+    CHECK(same(gel_buffer_slot(&other, gel_arrive(0, 'b'), other_store, 2), writes));
+    CHECK(refuses(gel_both(0, 'c', 0), 5));
+    CHECK(gel_buffer_open(&other, 1, 2, 1) == 0);
+    CHECK(same(gel_buffer_slot(&other, gel_nothing(), other_store, 2), nothing));
+    CHECK(same(gel_buffer_slot(&other, gel_arrive(0, 'a'), other_store, 2), nothing));
+    CHECK(same(gel_buffer_slot(&other, gel_arrive(0, 'b'), other_store, 2), nothing));
+    CHECK(refuses(gel_arrive(0, 'c'), 5));
+    CHECK(gel_buffer_judge(&other, gel_both(0, 'c', 0), 2) == 0);
+    CHECK(same(gel_buffer_slot(&other, gel_both(0, 'c', 0), other_store, 2), writes));
+    CHECK(other_store[0] == 'b' && other_store[1] == 'c' && other.regs[GEL_TAIL_MARK] == 2);
+    CHECK(same(gel_buffer_step(&other, gel_nothing(), other_store, 2), nothing));
+    CHECK(same(gel_buffer_step(&other, gel_nothing(), other_store, 2), delivers));
+}
+
 /* The counts by queue of `other`, which has one tail byte of queue 1 and nothing else, are right. */
 static int counts_right(void) {
     int right = other.tails[0] == 0 && other.tails[1] == 1 && other.heads[1] == 0 && other.owing[1] == 0;
@@ -363,6 +384,7 @@ int main(void) {
     nine_slots();
     sizes_refused();
     slots_refused();
+    full_queue_refilled();
     counts_mended();
     runs();
     idle_slots();

@@ -12,7 +12,11 @@ fn the_listing() {
     let both = call(Some((0, 0x41)), Some(0));
     let (second, third, fourth) = (arrival(0, 0x42), arrival(0, 0x43), arrival(0, 0x44));
     let calls = [both, second, request(0), request(0), third, fourth, IDLE, request(0), IDLE, IDLE];
-    let answers = example(1, 2, 2, &calls);
+    assert_eq!(lines(example(1, 2, 2, &calls)), ["D 2 0 65", "R 3 7", "D 4 0 66", "D 8 0 67", "E 9"]);
+}
+
+/// What a script of these slots prints.
+fn lines(answers: Vec<u64>) -> Vec<String> {
     let mut lines = Vec::new();
     let mut accepted = 0;
     for answer in answers {
@@ -25,7 +29,16 @@ fn the_listing() {
         }
     }
     lines.push(format!("E {accepted}"));
-    assert_eq!(lines, ["D 2 0 65", "R 3 7", "D 4 0 66", "D 8 0 67", "E 9"]);
+    lines
+}
+
+/// Request 2.1: the queue is full and its bytes are in the tail. Without the first slot they are in the store.
+#[test]
+fn a_swap() {
+    let refill = call(Some((0, 67)), Some(0));
+    let calls = [IDLE, arrival(0, 65), arrival(0, 66), refill, IDLE, IDLE, IDLE, IDLE];
+    assert_eq!(lines(example(1, 2, 1, &calls)), ["D 5 0 65", "E 8"]);
+    assert_eq!(lines(example(1, 2, 1, &calls[1..])), ["R 2 5", "E 6"]);
 }
 
 #[test]
@@ -82,4 +95,6 @@ fn the_high_marks() {
     assert_eq!(marks(small, &stored[..3]), [2, 0], "the head before the read");
     assert_eq!(marks(small, &stored[..4]), [2, 2], "the head after the read");
     assert_eq!(marks(small, &stored), [2, 2], "they do not fall again");
+    let swap = [IDLE, arrival(0, 65), arrival(0, 66), call(Some((0, 67)), Some(0))];
+    assert_eq!(marks(Sizes::new(1, 2, 1), &swap), [2, 0], "the tail after the request of a swap");
 }

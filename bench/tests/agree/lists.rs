@@ -1,5 +1,7 @@
 //! Lists of many slots.
 
+use bench::model::Model;
+use bench::natural;
 use bench::rough::rough;
 use bench::traffic::Traffic;
 use bench::words::halves;
@@ -32,6 +34,31 @@ fn at_small_sizes() {
     }
 }
 
+/// Request 2.1: queues that are full, read and refilled in one slot.
+#[test]
+fn at_sizes_that_swap() {
+    let mut swaps = 0;
+    for (seed, sizes) in shallow_sizes().into_iter().enumerate() {
+        let calls = random_calls(sizes, seed as u64);
+        agree(sizes, &calls, &random_store(sizes.store()));
+        swaps += swaps_of(sizes, &calls);
+    }
+    assert!(swaps > 500, "{swaps} swaps");
+}
+
+/// How many slots of a list read and refill a full queue and are taken.
+fn swaps_of(sizes: Sizes, calls: &[u64]) -> usize {
+    let mut buffer = natural::Buffer::fresh(sizes).expect("these sizes are accepted");
+    let mut store = vec![0; sizes.store()];
+    let mut taken = 0;
+    for &call in calls {
+        let (arrival, request) = halves(call);
+        let swaps = buffer.swaps(arrival, request);
+        taken += usize::from(number(buffer.slot(call, &mut store)) == 0 && swaps);
+    }
+    taken
+}
+
 #[test]
 fn no_list_and_a_longer_store() {
     for sizes in LIMITS {
@@ -52,7 +79,9 @@ fn in_round_robin() {
 #[test]
 fn much_happens_in_the_lists() {
     let mut refusals = [0; 11];
+    let mut swaps = 0;
     for (_, sizes) in many_sizes() {
+        swaps += swaps_of(sizes, &random_calls(sizes, 0));
         let store = vec![0; sizes.store()];
         let answers = |seed| outcome(PLAIN.run, sizes, &random_calls(sizes, seed), &store).answers;
         let answers = [answers(0), answers(1)].concat();
@@ -64,6 +93,7 @@ fn much_happens_in_the_lists() {
         assert!(answers.iter().any(|&answer| read(answer).is_some()), "{sizes:?}: no read");
     }
     assert!([4, 5, 6, 7].into_iter().all(|number| refusals[number] > 100), "{refusals:?}");
+    assert!(swaps > 500, "{swaps} swaps");
     assert!([1, 2, 3, 8, 9, 10].into_iter().all(|number| refusals[number] == 0), "{refusals:?}");
 }
 

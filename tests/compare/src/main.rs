@@ -6,9 +6,10 @@
 //!
 //! Each script is judged, read command by command, written back and run by both, in just as much output as is asked for
 //! it and, of the proved runner alone, in one byte less. PROGRAM is the program `slots`: every hundredth script, and
-//! those at the edges of the format, also go through it. Numbers that are no command go to the writer. Prints how often
-//! each line and each refusal occurred; one that never occurred is a failure. `compare program` tests the program alone, on inputs that come in parts and on inputs
-//! and outputs that fail. The last line is 'N passed, M failed'.
+//! those at the edges of the format and the worked cases, also go through it. Numbers that are no command go to the
+//! writer. Prints how often each line and each refusal occurred, and how many slots swapped; a line or a refusal that
+//! never occurred is a failure, and so are too few swaps in 4,000 scripts or more. `compare program` tests the program
+//! alone, on inputs that come in parts and on inputs and outputs that fail. The last line is 'N passed, M failed'.
 
 mod commands;
 mod program;
@@ -38,7 +39,7 @@ fn main() -> ExitCode {
         Some(word) => word.parse().expect("SEED and COUNT are whole numbers"),
         None => usual,
     };
-    let (seed, count) = (number(0, 1), number(1, 4_000));
+    let (seed, count) = (number(0, 1), number(1, seen::USUAL_SCRIPTS));
     let program = arguments.get(2).map(String::as_str);
 
     let mut random = Random::new(seed);
@@ -56,6 +57,13 @@ fn main() -> ExitCode {
             failed += 1;
         }
     }
+    for (script, text) in scripts::WORKED {
+        let found = compare(script, program, &mut seen);
+        if let Err(what) = found.and_then(|found| program::same("the text", &found, text.as_bytes())) {
+            println!("the worked case of {text:?}: {what}");
+            failed += 1;
+        }
+    }
     let numbers = commands::refused_numbers();
     for what in numbers.iter().filter_map(|result| result.as_ref().err()) {
         println!("{what}");
@@ -66,7 +74,11 @@ fn main() -> ExitCode {
         println!("{kind} never occurred");
         failed += 1;
     }
-    let tests = all.len() + numbers.len();
+    if count >= seen::USUAL_SCRIPTS && seen.too_few_swaps() {
+        println!("too few swaps");
+        failed += 1;
+    }
+    let tests = all.len() + scripts::WORKED.len() + numbers.len();
     println!("{} passed, {failed} failed", tests - failed.min(tests));
     if failed == 0 {
         ExitCode::SUCCESS
@@ -75,18 +87,17 @@ fn main() -> ExitCode {
     }
 }
 
-fn compare(script: &[u8], program: Option<&str>, seen: &mut Seen) -> Result<(), String> {
+/// The text that all have of a script.
+fn compare(script: &[u8], program: Option<&str>, seen: &mut Seen) -> Result<Vec<u8>, String> {
     commands::compare(script)?;
-    let text = texts::compare(script)?;
+    let (text, swaps) = texts::compare(script)?;
     texts::too_short(script)?;
-    seen.add(&text);
-    match program {
-        Some(path) => {
-            program::from_pipe(path, script, &text)?;
-            program::in_chunks(path, script, script.len() / 5 + 1, &text)
-        }
-        None => Ok(()),
+    seen.add(&text, swaps);
+    if let Some(path) = program {
+        program::from_pipe(path, script, &text)?;
+        program::in_chunks(path, script, script.len() / 5 + 1, &text)?;
     }
+    Ok(text)
 }
 
 fn test_program(path: &str) -> ExitCode {

@@ -1,8 +1,11 @@
 //! Scripts to compare the two programs on, each from a seeded generator: heavy traffic at many sizes and at the
-//! limits, queues out of range, counts, every malformation, and bytes at random.
+//! limits, full queues that are read and refilled, queues out of range, counts, every malformation, and bytes at
+//! random.
 
+use second::buffer::Buffer;
+use second::lists::Traffic;
 use second::random::Random;
-use second::sizes::Sizes;
+use second::sizes::{Design, Sizes};
 
 const SIZES: u8 = 0x10;
 const IDLE: u8 = 0x00;
@@ -44,10 +47,25 @@ const REFUSED: [(usize, usize, usize); 9] = [
     (16, 127, 33),
 ];
 
+/// The worked cases of request 2.1, each with its text: a full queue is read and refilled in slot 3, with both bytes in
+/// the tail, and in slot 2, with both in the store, so that the request would be Owed.
+#[rustfmt::skip]
+pub const WORKED: [(&[u8], &str); 2] = [
+    (
+        &[SIZES, 1, 2, 1, IDLE, ARRIVAL, 0, 65, ARRIVAL, 0, 66, BOTH, 0, 67, 0, COUNT, 4, 0, END],
+        "D 5 0 65\nE 8\n",
+    ),
+    (
+        &[SIZES, 1, 2, 1, ARRIVAL, 0, 65, ARRIVAL, 0, 66, BOTH, 0, 67, 0, COUNT, 4, 0, END],
+        "R 2 5\nE 6\n",
+    ),
+];
+
 /// One script.
 pub fn script(random: &mut Random) -> Vec<u8> {
     match random.below(100) {
-        0..=59 => traffic(random),
+        0..=49 => traffic(random),
+        50..=59 => refills(random),
         60..=64 => with_sizes_refused(random),
         65..=89 => damaged(random),
         _ => bytes_at_random(random),
@@ -189,6 +207,29 @@ fn slots(random: &mut Random, sizes: Sizes, mix: Mix, length: usize) -> Vec<u8> 
                 let request = if random.percent(50) { arrival } else { queue(random, mix) };
                 script.extend([BOTH, arrival, random.byte(), request]);
             }
+        }
+    }
+    script.push(END);
+    script
+}
+
+/// Queues of few blocks that are kept full, read and refilled in one slot (request 2.1). Which of them are full the
+/// second program tells.
+fn refills(random: &mut Random) -> Vec<u8> {
+    let sizes = Sizes { q: random.between(1, 8), b: random.between(2, 6), k: random.pick(&[1, 1, 2]) };
+    let cells = Design::Full.cells(sizes);
+    let mut buffer = Buffer::fresh(sizes, cells).expect("these sizes are accepted");
+    let mut store = vec![0; sizes.store_size()];
+    let traffic = Traffic::of_full_queues(random);
+    let mut script = vec![SIZES, sizes.q as u8, sizes.b as u8, sizes.k as u8];
+    for index in 0..random.between(50, 300) {
+        let (arrival, request) = traffic.call(random, index, &buffer.to_raw());
+        buffer.slot(cells, arrival, request, &mut store);
+        match (arrival, request) {
+            (None, None) => script.push(IDLE),
+            (Some((queue, byte)), None) => script.extend([ARRIVAL, queue as u8, byte]),
+            (None, Some(asked)) => script.extend([REQUEST, asked as u8]),
+            (Some((queue, byte)), Some(asked)) => script.extend([BOTH, queue as u8, byte, asked as u8]),
         }
     }
     script.push(END);

@@ -10,10 +10,11 @@ pub const STORE_LENGTH: usize = 65_536;
 /// A byte that stays where nothing is printed.
 const UNTOUCHED: u8 = 0xA5;
 
-/// The text that both have of a script, in just as much output as is asked for it. What follows the text is untouched.
-pub fn compare(script: &[u8]) -> Result<Vec<u8>, String> {
+/// The text that both have of a script, in just as much output as is asked for it, and how many of its slots swapped.
+/// What follows the text is untouched.
+pub fn compare(script: &[u8]) -> Result<(Vec<u8>, usize), String> {
     let mut expected = Vec::new();
-    run_script(script, &mut expected).expect("a vector takes all that is written");
+    let swaps = run_script(script, &mut expected).expect("a vector takes all that is written");
     let mut output = vec![UNTOUCHED; library::output_asked(script.len())];
     let printed =
         library::run(script, &mut vec![0; STORE_LENGTH], &mut output).ok_or("the output is too short")?;
@@ -21,7 +22,7 @@ pub fn compare(script: &[u8]) -> Result<Vec<u8>, String> {
     if output[printed..].iter().any(|&byte| byte != UNTOUCHED) {
         return Err("the output behind the text is touched".to_string());
     }
-    Ok(expected)
+    Ok((expected, swaps))
 }
 
 /// One byte of output less than is asked is too short, whatever the script prints, and nothing is touched.

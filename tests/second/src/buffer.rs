@@ -22,6 +22,17 @@ impl Answer {
     }
 }
 
+/// What a slot meets that reads and refills one full queue (request 2.1).
+#[derive(Clone, Copy, Debug, PartialEq, Eq, PartialOrd, Ord)]
+pub enum Refill {
+    /// The request is taken before the arrival, for which there is room then.
+    Swap,
+    /// The request would be Owed and take no byte out of the tail.
+    Owed,
+    /// The request would be Held, and the tail has no byte of the queue yet.
+    NoTailByte,
+}
+
 #[derive(Clone, Copy)]
 struct Entry {
     sequence: u64,
@@ -117,13 +128,13 @@ impl Buffer {
         // The steps work on a copy, so that refusal 10 has nothing to undo.
         let mut next = self.clone();
         let delivered = next.deliver_oldest_cell();
-        if let Some((queue, byte)) = arrival {
-            next.join_tail(queue, byte);
+        if self.swaps(arrival, request) {
+            next.take_youngest_cell(request);
+            next.join_tail(arrival);
+        } else {
+            next.join_tail(arrival);
+            next.take_youngest_cell(request);
         }
-        // Request 2.8: the tail is looked at just after the arrival joins it, so a byte that the request takes
-        // counts too. Without an arrival nothing rises, since the mark is at least the fill already.
-        next.tail_mark = next.tail_mark.max(fill(&next.tail));
-        next.take_youngest_cell(request);
         let mut written = None;
         let mut read = None;
         if next.phase == next.sizes.b - 1 {
@@ -149,6 +160,37 @@ impl Buffer {
         Answer { number: 0, delivered, written, read }
     }
 
+    /// Request 2.1: "Where the arrival's queue is full, the request is for that queue, the request would be Held, and
+    /// the tail already has a byte of it, take the request before the arrival." Judged on the state as handed in.
+    pub fn swaps(&self, arrival: Option<(usize, u8)>, request: Option<usize>) -> bool {
+        self.refill(arrival, request) == Some(Refill::Swap)
+    }
+
+    /// None where the slot does not have an arrival and a request of one queue, or that queue is not full.
+    pub fn refill(&self, arrival: Option<(usize, u8)>, request: Option<usize>) -> Option<Refill> {
+        let (queue, _) = arrival?;
+        if request != Some(queue) || queue >= self.sizes.q || !self.is_full(queue) {
+            return None;
+        }
+        if self.would_be_owed(queue) {
+            return Some(Refill::Owed);
+        }
+        if self.tail[queue].is_empty() {
+            return Some(Refill::NoTailByte);
+        }
+        Some(Refill::Swap)
+    }
+
+    /// Whether no byte of this queue may arrive: its tail bytes and blocks fill its K blocks.
+    fn is_full(&self, queue: usize) -> bool {
+        let sizes = self.sizes;
+        self.tail[queue].len() + sizes.b * self.rings[queue].count == sizes.k * sizes.b
+    }
+
+    pub fn tail_is_full(&self) -> bool {
+        fill(&self.tail) == self.sizes.tail_size()
+    }
+
     /// Refusals 3, 2 and 4 to 9, on the state as handed in.
     fn refusal_before(
         &self,
@@ -168,7 +210,7 @@ impl Buffer {
             if queue >= sizes.q {
                 return Some(4);
             }
-            if self.tail[queue].len() + sizes.b * self.rings[queue].count == sizes.k * sizes.b {
+            if self.is_full(queue) && !self.swaps(arrival, request) {
                 return Some(5);
             }
         }
@@ -186,7 +228,9 @@ impl Buffer {
                 return Some(8);
             }
         }
-        if arrival.is_some() && fill(&self.tail) == sizes.tail_size() {
+        // In a swap "9 looks at the tail after the request", which took a byte out of it.
+        let taken = usize::from(self.swaps(arrival, request));
+        if arrival.is_some() && fill(&self.tail) - taken == sizes.tail_size() {
             return Some(9);
         }
         None
@@ -232,10 +276,14 @@ impl Buffer {
         }
     }
 
-    /// Step 2.
-    fn join_tail(&mut self, queue: usize, byte: u8) {
-        let sequence = self.take_sequence();
-        self.tail[queue].push_back(Entry { sequence, byte });
+    /// Step 2. Request 2.8: the tail is looked at just after the arrival joins it, so a byte that the request takes
+    /// afterwards counts too. Without an arrival nothing rises, since the mark is at least the fill already.
+    fn join_tail(&mut self, arrival: Option<(usize, u8)>) {
+        if let Some((queue, byte)) = arrival {
+            let sequence = self.take_sequence();
+            self.tail[queue].push_back(Entry { sequence, byte });
+            self.tail_mark = self.tail_mark.max(fill(&self.tail));
+        }
     }
 
     /// Step 3.

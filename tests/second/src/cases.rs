@@ -3,7 +3,8 @@
 use std::collections::BTreeMap;
 
 use crate::breaks::{broken_state, Break, ALL};
-use crate::buffer::Answer;
+use crate::buffer::{Answer, Buffer};
+use crate::full_queue::state_with_full_queue;
 use crate::lines::{design_word, print_answer, print_call, print_sizes, print_state, print_store};
 use crate::random::Random;
 use crate::random_state::{random_state, Lean};
@@ -47,6 +48,8 @@ pub fn print_cases(seed: u64, count: usize) {
         let case = if random.percent(20) {
             next_break += 1;
             breaking_case(&mut random, ALL[next_break % ALL.len()])
+        } else if random.percent(12) {
+            refilling_case(&mut random)
         } else {
             let goal = random.pick(&[0, 0, 0, 0, 0, 0, 2, 4, 5, 6, 7, 8, 9, 10]);
             case_with_answer(&mut random, goal)
@@ -101,6 +104,22 @@ fn leaning_case(random: &mut Random, goal: u8) -> Case {
         store: random.bytes(store_length),
         arrival: random_queue(random, sizes, trouble).map(|queue| (queue, random.byte())),
         request: random_queue(random, sizes, trouble),
+    }
+}
+
+/// A full queue, read and refilled in one slot (request 2.1).
+fn refilling_case(random: &mut Random) -> Case {
+    let design = random_design(random);
+    let sizes = random_sizes(random, design);
+    let goal = random.pick(&[0, 0, 0, 8, 10]);
+    let lean = Lean::towards(random, goal);
+    let (state, queue) = state_with_full_queue(random, sizes, design.cells(sizes), lean);
+    Case {
+        design,
+        state,
+        store: random.bytes(sizes.store_size()),
+        arrival: Some((queue, random.byte())),
+        request: Some(queue),
     }
 }
 
@@ -185,6 +204,10 @@ impl Tally {
         self.event("accepted, Owed delivered", accepted && matches!(oldest, Some(Cell::Owed(_))));
         self.event("accepted, youngest Held", accepted && matches!(outcome.state.cells.last(), Some(Cell::Held(..))));
         self.event("accepted, youngest Owed", accepted && matches!(outcome.state.cells.last(), Some(Cell::Owed(_))));
+        let swaps = accepted && Buffer::from_raw(&case.state).swaps(case.arrival, case.request);
+        let tail_full = case.state.tail.len() == case.state.sizes.tail_size();
+        self.event("accepted, swap", swaps);
+        self.event("accepted, swap in a full tail", swaps && tail_full);
         self.event("accepted, block written", answer.written.is_some());
         self.event("accepted, block read", answer.read.is_some());
         self.event("accepted, written and read", answer.written.is_some() && answer.read.is_some());

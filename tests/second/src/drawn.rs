@@ -139,10 +139,13 @@ fn the_readme_table_is_what_the_slots_do() {
 }
 
 #[test]
-fn the_drawn_script_prints_its_text() {
-    let mut output = Vec::new();
-    run_script(&script("examples/drawn.hex"), &mut output).expect("a vector takes all");
-    assert_eq!(String::from_utf8(output).expect("plain text"), file("examples/drawn.txt"));
+fn the_examples_print_their_text() {
+    for name in ["drawn", "listing", "swap"] {
+        let mut output = Vec::new();
+        run_script(&script(&format!("examples/{name}.hex")), &mut output).expect("a vector takes all");
+        let text = String::from_utf8(output).expect("plain text");
+        assert_eq!(text, file(&format!("examples/{name}.txt")), "{name}");
+    }
 }
 
 #[test]

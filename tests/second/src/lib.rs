@@ -3,6 +3,7 @@
 pub mod breaks;
 pub mod buffer;
 pub mod cases;
+pub mod full_queue;
 mod lines;
 pub mod lists;
 pub mod program;

@@ -11,16 +11,24 @@ use crate::sizes::{Design, Sizes};
 
 pub fn print_lists(seed: u64, count: usize) {
     let mut random = Random::new(seed);
-    let mut answers: BTreeMap<u8, usize> = BTreeMap::new();
+    let mut tally = Tally::default();
     for number in 0..count {
-        print_list(&mut random, number, &mut answers);
+        print_list(&mut random, number, &mut tally);
     }
-    for (answer, count) in &answers {
+    for (answer, count) in &tally.answers {
         eprintln!("answer {answer}: {count}");
     }
+    eprintln!("swaps: {}", tally.swaps);
 }
 
-fn print_list(random: &mut Random, number: usize, answers: &mut BTreeMap<u8, usize>) {
+/// What occurred how often, for the summary on standard error.
+#[derive(Default)]
+struct Tally {
+    answers: BTreeMap<u8, usize>,
+    swaps: usize,
+}
+
+fn print_list(random: &mut Random, number: usize, tally: &mut Tally) {
     let design = if random.percent(30) { Design::Fewer } else { Design::Full };
     let least_block = if design == Design::Fewer { 2 } else { 1 };
     let sizes = Sizes { q: random.between(1, 3), b: random.between(least_block, 4), k: random.between(1, 3) };
@@ -31,7 +39,8 @@ fn print_list(random: &mut Random, number: usize, answers: &mut BTreeMap<u8, usi
     };
     let mut store = random.bytes(store_length);
     let mut buffer = Buffer::fresh(sizes, cells).expect("these sizes are accepted");
-    let traffic = Traffic::random(random);
+    let full_queues = random.percent(30);
+    let traffic = if full_queues { Traffic::of_full_queues } else { Traffic::random }(random);
 
     println!("list {number} design {}", design_word(design));
     print_sizes(sizes);
@@ -39,15 +48,18 @@ fn print_list(random: &mut Random, number: usize, answers: &mut BTreeMap<u8, usi
     for index in 0..random.between(5, 40) {
         let before = buffer.to_raw();
         let (arrival, request) = traffic.call(random, index, &before);
+        let swaps = buffer.swaps(arrival, request);
         let answer = buffer.slot(cells, arrival, request, &mut store);
         let after = buffer.to_raw();
-        *answers.entry(answer.number).or_default() += 1;
+        let accepted = answer.number == 0;
+        *tally.answers.entry(answer.number).or_default() += 1;
+        tally.swaps += usize::from(accepted && swaps);
 
-        // A refused slot did not happen, so no byte joined.
-        let joined = usize::from(answer.number == 0 && arrival.is_some());
+        // A refused slot did not happen, so no byte joined; in a swap one went before.
+        let grown = usize::from(accepted && arrival.is_some() && !swaps);
         print_call(arrival, request);
         print_answer(&answer);
-        println!("fills {} {} {}", before.tail.len() + joined, after.tail.len(), after.head.len());
+        println!("fills {} {} {}", before.tail.len() + grown, after.tail.len(), after.head.len());
     }
     println!("end");
     print_state("after ", &buffer.to_raw());
@@ -55,13 +67,23 @@ fn print_list(random: &mut Random, number: usize, answers: &mut BTreeMap<u8, usi
     println!();
 }
 
+/// A favourite queue stays for so many slots.
+const SLOTS_OF_A_FAVOURITE: usize = 12;
+
 /// The habits of one list, as chances in percent.
 pub struct Traffic {
     /// So many slots without a request, for blocks to reach the store.
     quiet: usize,
     arrivals: usize,
     requests: usize,
-    /// Arrivals where there is room, requests where a byte is left to ask for.
+    /// Slots that read and refill one queue.
+    refills: usize,
+    /// Arrivals go where most room is, and requests where they would be Owed: so many queues become full at about the
+    /// same time, with bytes in the tail, of which only one block is written each b slots.
+    level: bool,
+    /// Both halves are of one queue for a while, so that blocks of it wait to be read with every byte owed.
+    favoured: usize,
+    /// Arrivals where there is room, requests where a byte is left to ask for, refills where they swap.
     sensible: usize,
     outside: usize,
 }
@@ -72,8 +94,25 @@ impl Traffic {
             quiet: random.pick(&[0, 4, 8, 15]),
             arrivals: random.pick(&[40, 70, 90, 100]),
             requests: random.pick(&[20, 50, 80, 100]),
+            refills: random.pick(&[0, 10, 40]),
+            level: random.percent(25),
+            favoured: random.pick(&[0, 0, 50]),
             sensible: random.pick(&[50, 90, 100]),
             outside: random.pick(&[0, 0, 5]),
+        }
+    }
+
+    /// Queues are kept full, and read and refilled as often as that can be.
+    pub fn of_full_queues(random: &mut Random) -> Traffic {
+        Traffic {
+            quiet: random.pick(&[0, 4, 8, 15]),
+            arrivals: random.pick(&[90, 100]),
+            requests: random.pick(&[50, 80, 100]),
+            refills: random.pick(&[40, 80, 100]),
+            level: random.percent(80),
+            favoured: random.pick(&[0, 50, 80]),
+            sensible: random.pick(&[80, 95, 100]),
+            outside: 0,
         }
     }
 
@@ -84,24 +123,43 @@ impl Traffic {
         state: &RawState,
     ) -> (Option<(usize, u8)>, Option<usize>) {
         let queues = state.sizes.q;
+        let favourite = index / SLOTS_OF_A_FAVOURITE % queues;
+        if index >= self.quiet && random.percent(self.refills) {
+            if let Some(queue) = self.queue(random, queues, favourite, |queue| would_swap(state, queue)) {
+                return (Some((queue, random.byte())), Some(queue));
+            }
+        }
         let mut arrival = None;
         if random.percent(self.arrivals) {
-            let queue = self.queue(random, queues, |queue| room(state, queue) > 0);
+            let most = (0..queues).map(|queue| room(state, queue)).max().unwrap_or(0);
+            let least = |queue: usize| if self.level && queue != favourite { most.max(1) } else { 1 };
+            let queue = self.queue(random, queues, favourite, |queue| room(state, queue) >= least(queue));
             arrival = queue.map(|queue| (queue, random.byte()));
         }
         let mut request = None;
         if index >= self.quiet && random.percent(self.requests) {
-            request = self.queue(random, queues, |queue| unrequested(state, queue) > 0);
+            let passed_over = |queue: usize| if self.level { bytes_of(&state.tail, queue) } else { 0 };
+            let left = |queue: usize| unrequested(state, queue) > passed_over(queue);
+            request = self.queue(random, queues, favourite, left);
         }
         (arrival, request)
     }
 
-    fn queue(&self, random: &mut Random, queues: usize, makes_sense: impl Fn(usize) -> bool) -> Option<usize> {
+    fn queue(
+        &self,
+        random: &mut Random,
+        queues: usize,
+        favourite: usize,
+        makes_sense: impl Fn(usize) -> bool,
+    ) -> Option<usize> {
         if random.percent(self.outside) {
             return Some(random.pick(&[queues, queues, queues + 1, 255]));
         }
         if !random.percent(self.sensible) {
             return Some(random.below(queues));
+        }
+        if random.percent(self.favoured) && makes_sense(favourite) {
+            return Some(favourite);
         }
         let sensible: Vec<usize> = (0..queues).filter(|&queue| makes_sense(queue)).collect();
         if sensible.is_empty() {
@@ -109,6 +167,13 @@ impl Traffic {
         }
         Some(random.pick(&sensible))
     }
+}
+
+/// Whether a slot that reads and refills this queue would swap (request 2.1): it is full, and the tail has a byte of
+/// it and every byte that is left to ask for.
+pub fn would_swap(state: &RawState, queue: usize) -> bool {
+    let tail_bytes = bytes_of(&state.tail, queue);
+    room(state, queue) == 0 && tail_bytes > 0 && unrequested(state, queue) == tail_bytes
 }
 
 fn bytes_of(cache: &[(usize, u8)], queue: usize) -> usize {

@@ -11,14 +11,19 @@ pub const SCRIPT_LIMIT: usize = 65_536;
 /// The bytes of the store that the program lends.
 const STORE_LENGTH: usize = 65_536;
 
-/// `input` may be cut after SCRIPT_LIMIT + 1 bytes; more tells nothing new.
-pub fn run_script(input: &[u8], output: &mut impl Write) -> io::Result<()> {
+/// `input` may be cut after SCRIPT_LIMIT + 1 bytes; more tells nothing new. Gives how many of its slots swapped
+/// (request 2.1), which no line tells.
+pub fn run_script(input: &[u8], output: &mut impl Write) -> io::Result<usize> {
     if input.len() > SCRIPT_LIMIT {
-        return writeln!(output, "S 15 {SCRIPT_LIMIT}");
+        writeln!(output, "S 15 {SCRIPT_LIMIT}")?;
+        return Ok(0);
     }
     let commands = match read_script(input) {
         Ok(commands) => commands,
-        Err(fault) => return writeln!(output, "S {} {}", fault.number, fault.offset),
+        Err(fault) => {
+            writeln!(output, "S {} {}", fault.number, fault.offset)?;
+            return Ok(0);
+        }
     };
     let sizes = match commands[0] {
         Command::Sizes(sizes) => sizes,
@@ -26,7 +31,10 @@ pub fn run_script(input: &[u8], output: &mut impl Write) -> io::Result<()> {
     };
     match Run::start(sizes) {
         Ok(run) => run.finish(&commands[1..], output),
-        Err(number) => writeln!(output, "R 0 {number}\nE 0"),
+        Err(number) => {
+            writeln!(output, "R 0 {number}\nE 0")?;
+            Ok(0)
+        }
     }
 }
 
@@ -35,6 +43,7 @@ struct Run {
     cells: usize,
     store: Vec<u8>,
     accepted: u64,
+    swaps: usize,
 }
 
 impl Run {
@@ -44,10 +53,11 @@ impl Run {
         if STORE_LENGTH < sizes.store_size() {
             return Err(2);
         }
-        Ok(Run { buffer, cells, store: vec![0; STORE_LENGTH], accepted: 0 })
+        Ok(Run { buffer, cells, store: vec![0; STORE_LENGTH], accepted: 0, swaps: 0 })
     }
 
-    fn finish(mut self, commands: &[Command], output: &mut impl Write) -> io::Result<()> {
+    /// How many slots swapped.
+    fn finish(mut self, commands: &[Command], output: &mut impl Write) -> io::Result<usize> {
         for &command in commands {
             match command {
                 Command::Idle => self.slot(None, None, output)?,
@@ -64,7 +74,8 @@ impl Run {
                 Command::Sizes(_) | Command::End => {}
             }
         }
-        writeln!(output, "E {}", self.accepted)
+        writeln!(output, "E {}", self.accepted)?;
+        Ok(self.swaps)
     }
 
     fn slot(
@@ -74,11 +85,13 @@ impl Run {
         output: &mut impl Write,
     ) -> io::Result<()> {
         let slot_number = self.accepted;
+        let swaps = self.buffer.swaps(arrival, request);
         let answer = self.buffer.slot(self.cells, arrival, request, &mut self.store);
         if answer.number != 0 {
             return writeln!(output, "R {slot_number} {}", answer.number);
         }
         self.accepted += 1;
+        self.swaps += usize::from(swaps);
         match answer.delivered {
             Some((queue, byte)) => writeln!(output, "D {slot_number} {queue} {byte}"),
             None => Ok(()),

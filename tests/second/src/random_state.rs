@@ -160,7 +160,7 @@ fn choose_queue(
 }
 
 /// Between fill and size, often at one of the two.
-fn random_mark(random: &mut Random, fill: usize, size: usize) -> usize {
+pub(crate) fn random_mark(random: &mut Random, fill: usize, size: usize) -> usize {
     match random.below(3) {
         0 => fill,
         1 => size,

@@ -1,9 +1,10 @@
 //! The paper's examples C1 to C12, its listing, and what else it settles.
 
 mod high_marks;
+mod swap;
 
 use crate::buffer::{Answer, Buffer};
-use crate::lists::Traffic;
+use crate::lists::{would_swap, Traffic};
 use crate::program::run_script;
 use crate::random::Random;
 use crate::raw::RawState;
@@ -246,35 +247,74 @@ fn every_command_is_read_with_its_operands() {
     assert_eq!(read_command(&[0x05], 1), Err(15));
 }
 
-/// The claim of "Lists of slots" on random lists: who asks is served L slots
-/// later, in the order of arrival, and 3, 8, 9 and 10 never come.
+/// The claim of "Lists of slots" on random lists.
 #[test]
 fn lists_deliver_what_was_asked() {
     let mut random = Random::new(1);
     for _ in 0..400 {
         let sizes = sizes(random.between(1, 5), random.between(1, 5), random.between(1, 3));
-        let cells = Design::Full.cells(sizes);
-        let mut state = fresh(sizes.q, sizes.b, sizes.k);
-        let mut store = random.bytes(sizes.store_size());
         let traffic = Traffic::random(&mut random);
-        let mut arrived: Vec<Vec<u8>> = vec![Vec::new(); sizes.q];
-        let mut asked = vec![0; sizes.q];
-        let mut due: Vec<Option<(usize, u8)>> = vec![None; cells];
-        for index in 0..400 {
-            let (arrival, request) = traffic.call(&mut random, index, &state);
-            let answer = slot(&mut state, arrival, request, &mut store);
-            assert!([0, 4, 5, 6, 7].contains(&answer.number), "{answer:?}");
-            if answer.number != 0 {
-                continue;
-            }
-            if let Some((queue, byte)) = arrival {
-                arrived[queue].push(byte);
-            }
-            due.push(request.map(|queue| {
-                asked[queue] += 1;
-                (queue, arrived[queue][asked[queue] - 1])
-            }));
-            assert_eq!(answer.delivered, due[due.len() - 1 - cells]);
+        check_list(&mut random, sizes, &traffic, |_, _, _| ());
+    }
+}
+
+/// A list of 400 slots: who asks is served L slots later, in the order of arrival, both caches hold at all times that
+/// the paper looks at them, and 3, 8, 9 and 10 never come. `accepted` is told each accepted slot: the state before it
+/// and its call.
+fn check_list(
+    random: &mut Random,
+    sizes: Sizes,
+    traffic: &Traffic,
+    mut accepted: impl FnMut(&RawState, Option<(usize, u8)>, Option<usize>),
+) {
+    let cells = Design::Full.cells(sizes);
+    let mut state = fresh(sizes.q, sizes.b, sizes.k);
+    let mut store = random.bytes(sizes.store_size());
+    let mut arrived: Vec<Vec<u8>> = vec![Vec::new(); sizes.q];
+    let mut asked = vec![0; sizes.q];
+    let mut due: Vec<Option<(usize, u8)>> = vec![None; cells];
+    for index in 0..400 {
+        let before = state.clone();
+        let (arrival, request) = traffic.call(random, index, &before);
+        let answer = slot(&mut state, arrival, request, &mut store);
+        assert!([0, 4, 5, 6, 7].contains(&answer.number), "{answer:?}");
+        if answer.number != 0 {
+            continue;
         }
+        accepted(&before, arrival, request);
+        if let Some((queue, byte)) = arrival {
+            arrived[queue].push(byte);
+        }
+        due.push(request.map(|queue| {
+            asked[queue] += 1;
+            (queue, arrived[queue][asked[queue] - 1])
+        }));
+        assert_eq!(answer.delivered, due[due.len() - 1 - cells]);
+        let (tail_fill, head_fill) = looked_at(&before, arrival, request, &answer, &state);
+        assert!(tail_fill.max(state.tail.len()) <= sizes.tail_size(), "{before:?} {arrival:?} {request:?}");
+        assert!(head_fill <= sizes.head_size(), "{before:?} {arrival:?} {request:?}");
+    }
+}
+
+/// The fills that the paper and request 2.8 look at, by the states around a slot and its call alone: what the tail held
+/// and the arrival if it was taken, less the byte that goes before it in a swap; and what the head holds as the slot
+/// ends, since nothing leaves it after the read.
+fn looked_at(
+    before: &RawState,
+    arrival: Option<(usize, u8)>,
+    request: Option<usize>,
+    answer: &Answer,
+    after: &RawState,
+) -> (usize, usize) {
+    let joined = usize::from(answer.number == 0 && arrival.is_some());
+    let gone = usize::from(answer.number == 0 && is_swap(before, arrival, request));
+    (before.tail.len() + joined - gone, after.head.len())
+}
+
+/// Request 2.1 on the lists of a state that keeps the rules.
+fn is_swap(state: &RawState, arrival: Option<(usize, u8)>, request: Option<usize>) -> bool {
+    match (arrival, request) {
+        (Some((arriving, _)), Some(asked)) => arriving == asked && asked < state.sizes.q && would_swap(state, asked),
+        _ => false,
     }
 }

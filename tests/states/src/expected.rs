@@ -1,12 +1,14 @@
 //! What is to come of a call, by the second program, slot by slot.
 
 use gelwynnar::{Answer, Stretch};
-use second::buffer::{self, Buffer};
+use second::buffer::{self, Buffer, Refill};
+use second::random::Random;
 use second::raw::RawState;
 use second::sizes::{Design, Sizes};
 
 use crate::difference;
 use crate::image::Image;
+use crate::refilled::Met;
 use crate::words::{self, Call, IDLE};
 
 /// A state and a store that slots happen to.
@@ -32,6 +34,20 @@ impl Expected {
     pub fn fresh(sizes: Sizes, store: &[u8]) -> Expected {
         let buffer = Buffer::fresh(sizes, Design::Full.cells(sizes)).ok();
         Expected { sizes, buffer, store: store.to_vec(), accepted: 0 }
+    }
+
+    /// What the slot of this call meets.
+    pub fn meets(&self, (arrival, request): Call) -> Met {
+        let Some(buffer) = &self.buffer else { return Met::default() };
+        Met { refill: buffer.refill(arrival, request), tail_full: buffer.tail_is_full() }
+    }
+
+    /// A call that reads and refills a full queue and swaps, where there is one.
+    pub fn some_swap(&self, random: &mut Random) -> Option<Call> {
+        let first = random.below(self.sizes.q);
+        let byte = random.byte();
+        let mut calls = (first..self.sizes.q).chain(0..first).map(|queue| (Some((queue, byte)), Some(queue)));
+        calls.find(|&call| self.meets(call).refill == Some(Refill::Swap))
     }
 
     pub fn slot(&mut self, call: Call) -> Answer {

@@ -1,15 +1,19 @@
 //! States to hand in, each with a call and a store, from a seeded generator: states that keep the rules and lean
-//! towards an answer, states with one fault, states with a few numbers changed, and any numbers at all.
+//! towards an answer, states with a full queue that the call reads and refills, states with one fault, states with a
+//! few numbers changed, and any numbers at all.
 
 use gelwynnar::{reg, REGS};
+use second::full_queue::state_with_full_queue;
 use second::random::Random;
 use second::random_state::{random_state, Amount, Lean};
 use second::raw::RawState;
 use second::sizes::Design;
 
+use crate::expected::Expected;
 use crate::faults::Fault;
 use crate::image::Image;
-use crate::picks::{is_large, some_call, some_sizes, some_store};
+use crate::picks::{is_large, shallow_sizes, some_call, some_sizes, some_store};
+use crate::refilled::Refilled;
 use crate::words::Call;
 
 pub struct Handed {
@@ -23,10 +27,11 @@ const TRIES: usize = 100;
 
 pub fn handed(random: &mut Random) -> Handed {
     match random.below(100) {
-        0..=64 => {
+        0..=49 => {
             let goal = random.pick(&[0, 0, 0, 0, 0, 0, 2, 4, 5, 6, 7, 8, 9, 10]);
             leaning(random, goal)
         }
+        50..=64 => refilled(random),
         65..=84 => {
             let fault = random.pick(&Fault::all());
             faulty(random, fault)
@@ -57,6 +62,31 @@ fn leaning(random: &mut Random, goal: u8) -> Handed {
         let short = goal == 2 || goal != 0 && random.percent(5);
         let store = some_store(random, sizes, short);
         if is_large(sizes) || tries == TRIES || number(&state, call, store.clone()) == goal {
+            let image = Image { store, ..Image::of_state(random, &state) };
+            return Handed { image, call, fault: None };
+        }
+    }
+}
+
+/// A state with a full queue, and the call that reads and refills it (request 2.1). What is to come of it only guides
+/// what is picked, as above.
+fn refilled(random: &mut Random) -> Handed {
+    let goal = random.pick(&Refilled::ALL);
+    let mut tries = 0;
+    loop {
+        tries += 1;
+        let sizes = shallow_sizes(random);
+        let lean = Lean::towards(random, goal.number());
+        let (mut state, queue) = state_with_full_queue(random, sizes, Design::Full.cells(sizes), lean);
+        if random.percent(30) {
+            to_ring_ends(random, &mut state);
+        }
+        let call = (Some((queue, random.byte())), Some(queue));
+        let short = random.percent(2);
+        let store = some_store(random, sizes, short);
+        let mut expected = Expected::new(&state, &store);
+        let met = expected.meets(call);
+        if is_large(sizes) || tries == TRIES || met.comes_to(expected.slot(call).number) == Some(goal) {
             let image = Image { store, ..Image::of_state(random, &state) };
             return Handed { image, call, fault: None };
         }

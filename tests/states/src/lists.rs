@@ -10,7 +10,8 @@ use crate::fresh;
 use crate::guarded::Edge;
 use crate::image::Image;
 use crate::memory::{Memory, RUN_CALLS};
-use crate::picks::{is_large, some_call, some_sizes};
+use crate::picks::{is_large, shallow_sizes, some_call, some_sizes};
+use crate::refilled::Met;
 use crate::seen::{self, Seen};
 use crate::words::{call_word, Call};
 
@@ -36,13 +37,14 @@ struct List<'a> {
 }
 
 pub fn check(edge: Edge, memory: &mut Memory, random: &mut Random, seen: &mut Seen) -> Result<(), String> {
-    let sizes = some_sizes(random);
+    let full_queues = random.percent(40);
+    let sizes = if full_queues { shallow_sizes(random) } else { some_sizes(random) };
     let store_bytes = sizes.store_size() + random.pick(&[0, 0, 1, 7]);
     let store = random.bytes(store_bytes);
     let fresh = fresh::open(sizes, store, edge, memory, random);
     let fresh = fresh.map_err(|what| format!("{sizes:?}, open: {what}"))?;
     let expected = Expected::fresh(sizes, &fresh.store);
-    let traffic = Traffic::random(random);
+    let traffic = if full_queues { Traffic::of_full_queues } else { Traffic::random }(random);
     let mut list = List { sizes, fresh, expected, traffic, slots: 0, memory, edge, random, seen };
     let calls = if is_large(sizes) { CALLS_AT_LARGE_SIZES } else { CALLS };
     for turn in 1..=calls {
@@ -72,8 +74,9 @@ impl List<'_> {
         let call = self.next_call();
         let word = call_word(self.random, call);
         let before = self.memory.image()?;
+        let met = self.expected.meets(call);
         let answer = self.expected.slot_in(call, lent);
-        self.seen.listed(answer);
+        self.seen.listed(answer, met);
         let store = &mut self.memory.store.slice_mut()[..lent];
         let found = gelwynnar::slot(self.memory.arrays.lent(), word, store);
         self.seen.call(seen::Call::Slot);
@@ -84,8 +87,9 @@ impl List<'_> {
         let call = self.next_call();
         let word = call_word(self.random, call);
         let before = self.memory.image()?;
+        let met = self.expected.meets(call);
         let answer = self.expected.slot(call);
-        self.seen.listed(answer);
+        self.seen.listed(answer, met);
         let store = self.memory.store.slice_mut();
         // Safe: the library alone writes the arrays of a list, and its store is long enough.
         let found = unsafe { gelwynnar::step(self.memory.arrays.lent(), word, store) };
@@ -120,8 +124,9 @@ impl List<'_> {
         for _ in 0..count {
             let call = self.next_call();
             words.push(call_word(self.random, call));
+            let met = self.expected.meets(call);
             let answer = self.expected.slot_in(call, lent);
-            self.seen.listed(answer);
+            self.seen.listed(answer, met);
             answers.push(answer.word());
         }
         let blank: Vec<u64> = (0..count).map(|_| self.random.word()).collect();
@@ -142,7 +147,7 @@ impl List<'_> {
         let few = self.random.below(2 * self.sizes.b + 1);
         let most = if is_large(self.sizes) { few } else { self.random.pick(&[few, few, 1_000, usize::MAX]) };
         let stretch = self.expected.idle_in(most, lent);
-        self.seen.listed(stretch.last);
+        self.seen.listed(stretch.last, Met::default());
         let store = &mut self.memory.store.slice_mut()[..lent];
         let found = gelwynnar::idle(self.memory.arrays.lent(), most, store);
         self.seen.call(seen::Call::Idle);

@@ -34,6 +34,12 @@ pub fn some_sizes(random: &mut Random) -> Sizes {
     Sizes { q, b, k }
 }
 
+/// The same with few blocks to a queue, so that queues are full while their bytes are in the tail.
+pub fn shallow_sizes(random: &mut Random) -> Sizes {
+    let k = random.pick(&[1, 1, 1, 2, 3]);
+    Sizes { k, ..some_sizes(random) }
+}
+
 pub fn sizes_at_the_limits(random: &mut Random) -> Sizes {
     let (q, b) = random.pick(&AT_THE_LIMITS);
     Sizes { q, b, k: random.pick(&[1, 1, 2, 3, 16, 255]) }

@@ -1,4 +1,5 @@
-//! How often each number, each broken rule and each call came. What came too seldom has not been tested.
+//! How often each number, each broken rule, each call and each outcome of a full queue that is read and refilled came.
+//! What came too seldom has not been tested.
 
 use std::collections::BTreeMap;
 use std::fmt;
@@ -6,6 +7,7 @@ use std::fmt;
 use gelwynnar::Answer;
 
 use crate::faults::Fault;
+use crate::refilled::{Met, Refilled};
 
 /// As many states as the least counts below are meant for.
 pub const USUAL_STATES: usize = 20_000;
@@ -22,6 +24,14 @@ const LIST_NUMBERS: [u8; 6] = [0, 2, 4, 5, 6, 7];
 
 /// What an accepted slot can do.
 const MOVES: [&str; 3] = ["delivers", "writes", "reads"];
+
+/// What can come of a full queue that is read and refilled. Steps seldom meet a full tail, since the slot before them
+/// has often written a block of it. From a fresh state no slot meets one, and few meet a queue with all its bytes in
+/// the store and owed.
+const SLOT_REFILLS: [Refilled; 6] = Refilled::ALL;
+const STEP_REFILLS: [Refilled; 5] =
+    [Refilled::Swaps, Refilled::Misses, Refilled::CannotRead, Refilled::WouldBeOwed, Refilled::HasNoTailByte];
+const LIST_REFILLS: [Refilled; 2] = [Refilled::Swaps, Refilled::WouldBeOwed];
 
 #[derive(Clone, Copy, Debug, PartialEq, Eq, PartialOrd, Ord)]
 pub enum Call {
@@ -40,13 +50,17 @@ const CALLS: [Call; 6] = [Call::Slot, Call::Step, Call::Run, Call::Idle, Call::J
 struct Answers {
     numbers: BTreeMap<u8, usize>,
     moves: BTreeMap<&'static str, usize>,
+    refills: BTreeMap<Refilled, usize>,
 }
 
 impl Answers {
-    fn add(&mut self, answer: Answer) {
+    fn add(&mut self, answer: Answer, met: Met) {
         *self.numbers.entry(answer.number).or_default() += 1;
         for (name, happened) in MOVES.into_iter().zip([answer.delivers, answer.writes, answer.reads]) {
             *self.moves.entry(name).or_default() += usize::from(happened);
+        }
+        if let Some(refilled) = met.comes_to(answer.number) {
+            *self.refills.entry(refilled).or_default() += 1;
         }
     }
 }
@@ -72,19 +86,19 @@ impl Seen {
         }
     }
 
-    pub fn slot(&mut self, answer: Answer) {
+    pub fn slot(&mut self, answer: Answer, met: Met) {
         self.call(Call::Slot);
-        self.slots.add(answer);
+        self.slots.add(answer, met);
     }
 
-    pub fn step(&mut self, answer: Answer) {
+    pub fn step(&mut self, answer: Answer, met: Met) {
         self.call(Call::Step);
-        self.steps.add(answer);
+        self.steps.add(answer, met);
     }
 
     /// One slot of a list, by whatever call.
-    pub fn listed(&mut self, answer: Answer) {
-        self.lists.add(answer);
+    pub fn listed(&mut self, answer: Answer, met: Met) {
+        self.lists.add(answer, met);
     }
 
     pub fn call(&mut self, call: Call) {
@@ -100,12 +114,12 @@ impl Seen {
                 all.push(format!("{what} came {times} times, and should have come {least} times or more"));
             }
         };
-        let kinds: [(&str, &Answers, &[u8]); 3] = [
-            ("slot", &self.slots, &SLOT_NUMBERS),
-            ("step", &self.steps, &STEP_NUMBERS),
-            ("slot of a list", &self.lists, &LIST_NUMBERS),
+        let kinds: [(&str, &Answers, &[u8], &[Refilled]); 3] = [
+            ("slot", &self.slots, &SLOT_NUMBERS, &SLOT_REFILLS),
+            ("step", &self.steps, &STEP_NUMBERS, &STEP_REFILLS),
+            ("slot of a list", &self.lists, &LIST_NUMBERS, &LIST_REFILLS),
         ];
-        for (kind, answers, numbers) in kinds {
+        for (kind, answers, numbers, refills) in kinds {
             for number in numbers {
                 ask(
                     format!("a {kind} that answers {number}"),
@@ -115,6 +129,9 @@ impl Seen {
             }
             for name in MOVES {
                 ask(format!("a {kind} that {name}"), answers.moves.get(name), LEAST_OF_A_NUMBER);
+            }
+            for refilled in refills {
+                ask(format!("a {kind} that {refilled}"), answers.refills.get(refilled), LEAST_OF_A_NUMBER);
             }
         }
         for fault in Fault::all() {
@@ -142,7 +159,8 @@ impl fmt::Display for Seen {
 impl fmt::Display for Answers {
     fn fmt(&self, out: &mut fmt::Formatter) -> fmt::Result {
         let numbers = listed(&self.numbers, |number| format!("number {number}"));
-        write!(out, "{numbers}, {}", listed(&self.moves, |name| name.to_string()))
+        let moves = listed(&self.moves, |name| name.to_string());
+        write!(out, "{numbers}, {moves}, {}", listed(&self.refills, Refilled::to_string))
     }
 }
 

@@ -45,11 +45,12 @@ impl Trial<'_> {
     /// The number that the slot answers.
     fn slot(&mut self) -> Result<u8, String> {
         let mut expected = self.expected.clone();
+        let met = expected.meets(self.call);
         let answer = expected.slot(self.call);
         let word = call_word(self.random, self.call);
         self.memory.put(self.before, self.edge);
         let found = gelwynnar::slot(self.memory.arrays.lent(), word, self.memory.store.slice_mut());
-        self.seen.slot(answer);
+        self.seen.slot(answer, met);
         if found != answer {
             return Err(format!("{:?} answers {found:?}, expected {answer:?}", self.call));
         }
@@ -65,13 +66,15 @@ impl Trial<'_> {
         let sizes = self.before.places.sizes();
         let mut before = self.memory.image()?;
         for _ in 0..if is_large(sizes) { 2 } else { 6 } {
-            let call = some_call(self.random, sizes, 5);
+            let swap = if self.random.percent(20) { expected.some_swap(self.random) } else { None };
+            let call = swap.unwrap_or_else(|| some_call(self.random, sizes, 5));
+            let met = expected.meets(call);
             let answer = expected.slot(call);
             let word = call_word(self.random, call);
             let (lent, store) = (self.memory.arrays.lent(), self.memory.store.slice_mut());
             // Safe: the slot answered neither 3 nor 2, and since then the library alone has written the arrays.
             let found = unsafe { gelwynnar::step(lent, word, store) };
-            self.seen.step(answer);
+            self.seen.step(answer, met);
             if found != answer {
                 return Err(format!("{call:?} answers {found:?}, expected {answer:?}"));
             }

@@ -1,7 +1,7 @@
 //! Request 2.8: each high mark is exactly the greatest fill since the fresh state. The tail is looked at just
 //! after the arrival joins it, the head just after the read.
 
-use super::{fresh, sizes, slot};
+use super::{fresh, is_swap, looked_at, sizes, slot};
 use crate::buffer::Answer;
 use crate::lists::Traffic;
 use crate::random::Random;
@@ -139,13 +139,6 @@ fn a_refused_slot_leaves_both_marks() {
     }
 }
 
-/// The fills that the request looks at, by the states around a slot and its call alone: what the tail held and
-/// the arrival if it was taken, and what the head holds as the slot ends, since nothing leaves it after the read.
-fn looked_at(before: &RawState, arrival: Option<(usize, u8)>, answer: &Answer, after: &RawState) -> (usize, usize) {
-    let joined = usize::from(answer.number == 0 && arrival.is_some());
-    (before.tail.len() + joined, after.head.len())
-}
-
 fn greater(old: (usize, usize), fills: (usize, usize)) -> (usize, usize) {
     (old.0.max(fills.0), old.1.max(fills.1))
 }
@@ -159,11 +152,14 @@ struct Seen {
     head_raised_and_left: usize,
     tail_below_mark: usize,
     head_below_mark: usize,
+    /// A swap with the tail at its mark, which would rise if the tail were looked at before the request.
+    swapped_at_mark: usize,
     refused: usize,
 }
 
 impl Seen {
-    fn add(&mut self, before: &RawState, answer: &Answer, after: &RawState) {
+    fn add(&mut self, before: &RawState, swaps: bool, answer: &Answer, after: &RawState) {
+        let accepted = answer.number == 0;
         let from_head = matches!(before.cells.first(), Some(Cell::Owed(_)));
         let tail_rose = after.tail_mark > before.tail_mark;
         let head_rose = after.head_mark > before.head_mark;
@@ -171,11 +167,12 @@ impl Seen {
         self.head_raised_and_left += usize::from(head_rose && from_head);
         self.tail_below_mark += usize::from(!tail_rose && after.tail.len() < after.tail_mark);
         self.head_below_mark += usize::from(!head_rose && after.head.len() < after.head_mark);
-        self.refused += usize::from(answer.number != 0);
+        self.swapped_at_mark += usize::from(accepted && swaps && before.tail.len() == before.tail_mark);
+        self.refused += usize::from(!accepted);
     }
 
     fn least(&self) -> usize {
-        let tail = self.tail_raised_and_left.min(self.tail_below_mark);
+        let tail = self.tail_raised_and_left.min(self.tail_below_mark).min(self.swapped_at_mark);
         tail.min(self.head_raised_and_left).min(self.head_below_mark).min(self.refused)
     }
 }
@@ -188,15 +185,16 @@ fn from_a_fresh_state_the_marks_are_the_greatest_fills() {
         let sizes = sizes(random.between(1, 5), random.between(1, 5), random.between(1, 3));
         let mut state = fresh(sizes.q, sizes.b, sizes.k);
         let mut store = random.bytes(sizes.store_size());
-        let traffic = Traffic::random(&mut random);
+        let full_queues = random.percent(50);
+        let traffic = if full_queues { Traffic::of_full_queues } else { Traffic::random }(&mut random);
         let mut greatest = (0, 0);
         for index in 0..400 {
             let before = state.clone();
             let (arrival, request) = traffic.call(&mut random, index, &before);
             let answer = slot(&mut state, arrival, request, &mut store);
-            greatest = greater(greatest, looked_at(&before, arrival, &answer, &state));
+            greatest = greater(greatest, looked_at(&before, arrival, request, &answer, &state));
             assert_eq!(marks(&state), greatest, "{before:?} {arrival:?} {request:?}");
-            seen.add(&before, &answer, &state);
+            seen.add(&before, is_swap(&before, arrival, request), &answer, &state);
         }
     }
     assert!(seen.least() >= 100, "{seen:?}");
@@ -214,9 +212,9 @@ fn from_any_state_the_marks_are_the_old_ones_or_the_fills() {
         let (arrival, request) = Traffic::random(&mut random).call(&mut random, usize::MAX, &before);
         let mut state = before.clone();
         let answer = slot(&mut state, arrival, request, &mut store);
-        let fills = looked_at(&before, arrival, &answer, &state);
+        let fills = looked_at(&before, arrival, request, &answer, &state);
         assert_eq!(marks(&state), greater(marks(&before), fills), "{before:?} {arrival:?} {request:?}");
-        seen.add(&before, &answer, &state);
+        seen.add(&before, is_swap(&before, arrival, request), &answer, &state);
     }
     assert!(seen.least() >= 100, "{seen:?}");
 }

@@ -1,5 +1,6 @@
--- The six steps of a slot as methods, called in turn after a judgement of 0 and told by the four choices: whoever calls
--- them so gets the slot. The arrival's step is called before the request's and after it, one of the two with no arrival.
+-- The six steps of a slot as methods, called in turn after a judgement of 0 and told by the four choices: whoever
+-- calls them so gets the slot. The arrival's step is called before the request's and after it, one of the two with
+-- no arrival.
 -- It cites the contracts alone, so that it holds of whatever meets them.
 use mathlib.Core.Path.{_≡_}
 use mathlib.Core.Bool.{Bool}

@@ -36,8 +36,8 @@ asksFor (some p) q = eqb p q
 abbrev pub roomTestsNow : (ℕ → ℕ) → Bool → Option ℕ → ℕ → List Bool
 roomTestsNow tails owing request q = asksFor request q ∷ not owing ∷ ltb 0 (tails q) ∷ []
 
--- Request 2.1, whether the slot takes its request before its arrival: the arrival is of a known queue, which is full, and
--- the request makes room in it.
+-- Request 2.1, whether the slot takes its request before its arrival: the arrival is of a known queue, which is full,
+-- and the request makes room in it.
 abbrev pub swapTestsNow : Figures → Bool → Byte → Option ℕ → List Bool
 swapTestsNow f owing y request =
     ltb (y .queue) (f .sizes .Q) ∷ queueFullNow f (y .queue) ∷ roomTestsNow (f .tails) owing request (y .queue)

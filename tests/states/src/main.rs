@@ -4,9 +4,9 @@
 //!
 //! COUNT states, 20,000 where nothing is said, each with a slot and then steps, with the same slot judged, and as the
 //! start of a run, of idle slots and of two margins; for each fifty of them a list of slots from a fresh state; and
-//! sizes. Every array lies against a page that nobody may touch. Prints how often each fault, each answer, each call and
-//! each outcome of a full queue that is read and refilled (request 2.1) came: with 20,000 states or more too seldom is a
-//! failure. The last line is 'N passed, M failed'.
+//! sizes. Every array lies against a page that nobody may touch. Prints how often each fault, each answer, each call
+//! and each outcome of a full queue that is read and refilled (request 2.1) came: with 20,000 states or more too seldom
+//! is a failure. The last line is 'N passed, M failed'.
 
 mod difference;
 mod expected;

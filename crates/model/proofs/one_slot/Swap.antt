@@ -283,8 +283,8 @@ late-taken x call covered known y e = (known y comes-now, subst Room same (room-
         tailBytes (afterRequest (call .request) (joined x call)) (z .queue) + x .sizes .b * blocks x (z .queue)
         < x .sizes .K * x .sizes .b
 
--- With no arrival step 2 changes nothing, where the mark is at least the fill. So a slot that swaps has steps 2 and 3 the
--- other way round.
+-- With no arrival step 2 changes nothing, where the mark is at least the fill. So a slot that swaps has steps 2 and 3
+-- the other way round.
 no-arrival : (y : State) → length (y .tail) ≤ y .tailMark → afterArrival none y ≡ y
 no-arrival y h =
     same-state (afterArrival none y) y refl refl (append-nil (y .tail)) refl refl refl
@@ -295,9 +295,11 @@ pub request-first : (x : State) (call : Call) → swaps x (call .arrival) (call 
     → asked x call ≡ afterArrival (call .arrival) (afterRequest (call .request) (afterDelivery x))
 request-first x call t h =
     ap (λ (a : Option Byte). afterArrival a (afterRequest (call .request) (joined x call))) (late-is x call t)
-    ∙ ap (λ (a : Option Byte). afterArrival (call .arrival) (afterRequest (call .request) (afterArrival a (afterDelivery x))))
-    (early-is-none x call t)
-    ∙ ap (λ (y : State). afterArrival (call .arrival) (afterRequest (call .request) y)) (no-arrival (afterDelivery x) h)
+    ∙ ap (λ (a : Option Byte). then-arrives (afterArrival a (afterDelivery x))) (early-is-none x call t)
+    ∙ ap then-arrives (no-arrival (afterDelivery x) h)
+  where
+    then-arrives : State → State
+    then-arrives y = afterArrival (call .arrival) (afterRequest (call .request) y)
 
 -- "All other slots answer as before": where the slot does not swap, 5 and 9 are judged and steps 2 and 3 are done as in
 -- document 01.

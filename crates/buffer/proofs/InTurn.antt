@@ -30,7 +30,7 @@ use Rattle.buffer.proofs.OneStep.{without-last}
 pub opened-closed : (x : State) (arrival : Option Byte)
     → closed (afterArrival arrival (opened x)) ≡ afterArrival arrival (afterDelivery x)
 opened-closed x arrival =
-    same-state (x .sizes) refl refl refl (without-last (drop 1 (x .cells)) empty) refl refl refl
+    same-state (x .sizes) refl refl refl (without-last (drop 1 (x .cells)) empty) refl refl refl refl
 
 -- What each step asks, where the slot is accepted.
 module _ (x : State) (store : List ℕ) (call : Call) where

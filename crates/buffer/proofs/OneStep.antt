@@ -64,8 +64,9 @@ module _ (s : code.State) where
 
   -- 5.
   pub turned : (p : ℕ) → p ≡ choose (moves x) 0 (x .phase + 1)
-      → state-of (x .sizes) p (x .tail) (x .head) (x .cells) (x .rings) (x .tailMark) (x .headMark) ≡ afterPhase x
-  turned p e = same-state (x .sizes) e refl refl refl refl refl refl
+      → state-of (x .sizes) p (x .tail) (x .head) (x .cells) (x .rings) (x .tailMark) (x .headMark) (x .lastAsked)
+      ≡ afterPhase x
+  turned p e = same-state (x .sizes) e refl refl refl refl refl refl refl
 
   module _ (fits : CachesFit x) where
     pub limits : InLimits (s .regs)
@@ -105,22 +106,23 @@ module _ (s : code.State) where
 
       pub delivered-state :
           state-of (x .sizes) (x .phase) (x .tail) (bytesIn (g .fill) head₁) (cellsIn (lookahead (x .sizes)) cells₁)
-          (x .rings) (x .tailMark) (x .headMark)
+          (x .rings) (x .tailMark) (x .headMark) (x .lastAsked)
           ≡ opened x
       delivered-state =
           same-state (x .sizes) refl refl
           (says .head-is ∙ ap (λ (c : Cell). headWithout c (x .head)) (sym (oldest long)))
           (shifted .cells-are ∙ ap (λ (c : Cell). drop 1 (x .cells) ++ c ∷ []) zero-is-empty)
-          refl refl refl
+          refl refl refl refl
 
     -- 2.
     pub arrived-state : (arrival : Option Byte) (n mark : ℕ) (tail₁ : List ℕ) → length (s .tail) ≡ tailPlaces
         → ArriveSays (s .regs .«tail_fill») arrival (s .tail) tail₁ n
         → mark ≡ max (x .tailMark) n
         → state-of (x .sizes) (x .phase) (bytesIn n tail₁) (x .head) (x .cells) (x .rings) mark (x .headMark)
+        (x .lastAsked)
         ≡ afterArrival arrival x
     arrived-state arrival n mark tail₁ long says e =
-        same-state (x .sizes) refl (says .tail-is) refl refl refl (e ∙ ap (max (x .tailMark)) filled) refl
+        same-state (x .sizes) refl (says .tail-is) refl refl refl (e ∙ ap (max (x .tailMark)) filled) refl refl
       where
         filled : n ≡ length (x .tail ++ arriving arrival)
         filled =
@@ -137,7 +139,7 @@ module _ (s : code.State) where
         → AskSays (s .regs .«tail_fill») owes request (s .tail) tail₁ a
         → state-of (x .sizes) (x .phase) (bytesIn (a .fill) tail₁) (x .head)
         (cellsIn (lookahead (x .sizes)) (set (s .cells) (span (x .sizes)) (a .cell))) (x .rings) (x .tailMark)
-        (x .headMark)
+        (x .headMark) (x .lastAsked)
         ≡ afterRequest request (closed x)
     asked-state owes request a tail₁ long test says =
         same-state (x .sizes) refl
@@ -145,7 +147,7 @@ module _ (s : code.State) where
         refl
         (youngest-stored (span (x .sizes)) (s .cells) (a .cell) (cells-in long)
         ∙ ap (λ (c : Cell). closed x .cells ++ c ∷ []) (says .cell-is ∙ asked-cell (closed x) request owes test))
-        refl refl refl
+        refl refl refl refl
 
   -- The ring of a queue, as the two arrays hold it.
   ring-here : (q : ℕ) → q < x .sizes .Q → ringOf (x .rings) q ≡ ring (countsIn (s .firsts) q) (countsIn (s .stored) q)
@@ -170,11 +172,11 @@ module _ (s : code.State) where
         store store₁ n) where
       pub written-state :
           state-of (x .sizes) (x .phase) (bytesIn n tail₁) (x .head) (x .cells)
-          (ringsIn (x .sizes .Q) (s .firsts) stored₁) (x .tailMark) (x .headMark)
+          (ringsIn (x .sizes .Q) (s .firsts) stored₁) (x .tailMark) (x .headMark) (x .lastAsked)
           ≡ afterWrite written x
       written-state =
           same-state (x .sizes) refl (says .tail-is ∙ moving-tail written x) refl refl
-          (says .rings-are ∙ moving-rings written x) refl refl
+          (says .rings-are ∙ moving-rings written x) refl refl refl
 
       pub written-store : store₁ ≡ storeWritten written x store
       written-store = says .store-is ∙ moving-store written x store
@@ -205,11 +207,12 @@ module _ (s : code.State) where
         store n
         → mark ≡ max (x .headMark) n
         → state-of (x .sizes) (x .phase) (x .tail) (bytesIn n head₁) (x .cells)
-        (ringsIn (x .sizes .Q) firsts₁ stored₁) (x .tailMark) mark
+        (ringsIn (x .sizes .Q) firsts₁ stored₁) (x .tailMark) mark (x .lastAsked)
         ≡ afterRead readQueue x store
     read-state {n} {mark} {head₁} says e =
         same-state (x .sizes) refl refl head-is refl (says .rings-are ∙ moving-read readQueue x) refl
         (e ∙ ap (max (x .headMark)) (sym (bytes-length n head₁ (says .fits)) ∙ ap length head-is))
+        refl
       where
         head-is : bytesIn n head₁ ≡ headRead readQueue x store
         head-is = says .head-is ∙ moving-head readQueue x store

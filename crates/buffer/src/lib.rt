@@ -63,10 +63,12 @@ fn shift_cells(cells: &mut CellArray, l: usize, cell: u32)
 }
 
 impl State {
-    // All cells empty from the start, empty caches and rings, first block 0, phase 0, marks 0.
+    // All cells empty from the start, empty caches and rings, first block 0, phase 0, marks 0. The last one asked is
+    // the last queue, or 0 where there is none.
     fn fresh(queues: usize, block: usize, depth: usize) -> State
         ensures { λ r. ⌜ r ≡ freshState queues block depth ⌝ }
     {
+        let last_asked = queues - minmax::smaller(queues, 1);
         State {
             regs: Regs {
                 queues: queues,
@@ -77,6 +79,7 @@ impl State {
                 head_fill: 0,
                 tail_mark: 0,
                 head_mark: 0,
+                last_asked: last_asked,
             },
             tail: [0; TAIL_PLACES],
             head: [0; HEAD_PLACES],

@@ -1,13 +1,16 @@
--- Demand 3 over calls of every kind, and the high marks that they leave: of any chain in which the first call meets
--- the contract of making a state and each next one that of a slot, a step, a run of many slots or a stretch of idle
--- slots, in any order, "each slot getting state and store exactly as the one before left them", refused ones
--- included. It cites the contracts alone, so that it holds of whatever meets them.
+-- Demand 3 over calls of every kind, and the high marks that they leave: of any chain in which the first call meets the
+-- contract of making a state and each next one that of a slot, a step, a run of many slots, a stretch of idle slots or
+-- a slot in which the round robin arbiter chooses, in any order, "each slot getting state and store exactly as the one
+-- before left them", refused ones included. It cites the contracts alone, so that it holds of whatever meets them.
 use mathlib.Core.Path.{_≡_}
 use mathlib.Core.List.{List, [], _∷_, _++_}
+use mathlib.Core.Option.{Option}
 use Prim.Native.Nat.{ℕ}
 use Rattle.model.specs.Sizes.{sizes, paper}
+use Rattle.model.specs.State.{Byte}
 use Rattle.model.specs.Slot.{Call}
 use Rattle.model.specs.Calls.{idles}
+use Rattle.model.specs.Arbiter.{arbiterCall}
 use Rattle.model.specs.Lists.{Step, stepOf, run, accepted}
 use Rattle.model.specs.Demand.{ListMeets, Sentences}
 use Rattle.model.specs.HighMarks.{GreatestFills}
@@ -16,6 +19,8 @@ use Rattle.buffer.specs.declared.State as code
 use Rattle.buffer.specs.declared.Made.{Made}
 use Rattle.buffer.specs.declared.Slotted.{Slotted}
 use Rattle.buffer.specs.Says.{stateOf, MakeSays, answerOf, SlotSays, StepSays}
+use Rattle.buffer_arbiter.specs.declared.ArbiterSlotted.{ArbiterSlotted}
+use Rattle.buffer_arbiter.specs.Says.{arbiterAnswerOf, ArbiterSlotSays}
 use Rattle.buffer_runs.specs.declared.Idled.{Idled}
 use Rattle.buffer_runs.specs.Says.{RunSays, IdleSays}
 
@@ -45,6 +50,12 @@ pub data MixedCalls : code.State → List ℕ → List Step → code.State → T
       → IdleSays s store n r store′
       → MixedCalls (r .state) store′ steps last
       → MixedCalls s store (run paper (stateOf s) store (idles (r .passed)) ++ steps) last
+  by-arbiter : {s : code.State} {store : List ℕ} {arrival : Option Byte} {a : ArbiterSlotted} {store′ : List ℕ}
+      {steps : List Step} {last : code.State}
+      → ArbiterSlotSays s store arrival a store′
+      → MixedCalls (a .state) store′ steps last
+      → MixedCalls s store
+      (stepOf (stateOf s) store (arbiterCall (stateOf s) arrival) (arbiterAnswerOf a store′) ∷ steps) last
 
 -- All of demand 3, fills and caches included, and once more sentence by sentence; and of the high marks in the end,
 -- that "each is now exactly the greatest fill since the fresh state" (request 2.8).

@@ -153,8 +153,8 @@ pub fn idle(state: State, n: usize, store: &mut [u8]) -> Idled
     }
 }
 
-// Demand 3 over slots, steps, runs and idle slots in any order, and the high marks that they leave, as a contract, so
-// that it is proved with the code.
+// Demand 3 over slots, steps, runs, idle slots and slots of the arbiter's in any order, and the high marks that they
+// leave, as a contract, so that it is proved with the code.
 pub fn demand_3_over_mixed_calls()
     ensures { λ _. ⌜ MixedCallsMeet ⌝ }
 {}

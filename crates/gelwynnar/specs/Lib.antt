@@ -1,3 +1,4 @@
 -- What the functions for C and C++ promise.
 pub mod Version
 pub mod Slots
+pub mod Arbiter

@@ -97,7 +97,8 @@ fn chosen_fields(chosen: Chosen) -> ChosenFields
     }
 }
 
-fn tell(number: u8, delivery: Delivery, written: Chosen, read: Chosen) -> Answer
+// An answer as its fields.
+pub fn tell(number: u8, delivery: Delivery, written: Chosen, read: Chosen) -> Answer
     ensures { λ r. ⌜ r ≡ answerTold number (deliveryIn delivery) (chosenIn written) (chosenIn read) ⌝ }
 {
     let gave = delivery_fields(delivery);
@@ -138,7 +139,8 @@ pub extern "C" fn gel_open(
         (now (regs .exit)) (left tail head cells firsts stored) (countsLeft tails heads owing) ⌝ }
 {
     if sizing::accepted(queues, block, depth) {
-        *regs = [queues, block, depth, 0, 0, 0, 0, 0];
+        let last_asked = queues - 1;
+        *regs = [queues, block, depth, 0, 0, 0, 0, 0, last_asked];
         *tail = [0; TAIL_PLACES];
         *head = [0; HEAD_PLACES];
         *cells = [EMPTY; CELL_PLACES];

@@ -104,6 +104,7 @@ pub fn pass(
         head_fill: regs.head_fill,
         tail_mark: regs.tail_mark,
         head_mark: regs.head_mark,
+        last_asked: regs.last_asked,
     };
     let count = quiet.count;
     if count == n {

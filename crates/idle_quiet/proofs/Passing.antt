@@ -29,6 +29,7 @@ withPhase phase regs = record {
   «head_fill» = regs .«head_fill»;
   «tail_mark» = regs .«tail_mark»;
   «head_mark» = regs .«head_mark»;
+  «last_asked» = regs .«last_asked»;
 }
 
 abbrev pub withCells : List ℕ → Arrays → Arrays
@@ -95,7 +96,8 @@ module _ (regs : Regs) (m : Arrays) (store : List ℕ) (counts : ByQueue)
     pub passed-by-shift : PassedQuietly paper x store count y
     passed-by-shift =
         subst (PassedQuietly paper x store count)
-        (same-state (quietly count x) y refl (sym phase-is) refl refl (sym (shifted .cells-are)) refl refl refl)
+        (same-state (quietly count x) y refl (sym phase-is) refl refl (sym (shifted .cells-are)) refl refl refl
+        refl)
         (subst (λ (k : ℕ). PassedQuietly paper x store k (quietly k x)) counted-is
         (counted-shift paperLimits x store kept long due not-due n leads-some))
 

@@ -1,4 +1,5 @@
--- Registers and arrays with 0 at every place hold a fresh state, and counts of 0 are its own.
+-- Registers and arrays with 0 at every place, but for the sizes and the last one asked, hold a fresh state, and counts
+-- of 0 are its own.
 use mathlib.Core.Path.{_≡_, refl, ap, sym, _∙_, fun-ext}
 use mathlib.Core.Bool.{true}
 use mathlib.Core.List.{_∷_}
@@ -52,7 +53,7 @@ fresh-in q b k e =
     same-state (sizes q b k) refl (bytes-none (replicate tailPlaces 0)) (bytes-none (replicate headPlaces 0))
     (zero-cells (lookahead (sizes q b k)) cellPlaces (omega (arith, in-limits (freshRegs q b k) e .span-high)))
     (zero-rings q queuePlaces)
-    refl refl
+    refl refl refl
 
 none-owed : (n q : ℕ) → owedOf q (replicate n empty) ≡ 0
 none-owed zero q = refl

@@ -7,11 +7,12 @@ use Rattle.model.specs.State.{Byte, Cell, Ring, State, stateFrom}
 use Rattle.model.proofs.basics.States as of
 
 -- A state from its parts.
-abbrev pub state-of : Sizes → ℕ → List Byte → List Byte → List Cell → List Ring → ℕ → ℕ → State
+abbrev pub state-of : Sizes → ℕ → List Byte → List Byte → List Cell → List Ring → ℕ → ℕ → ℕ → State
 state-of = stateFrom
 
-pub same-state : (s : Sizes) {p p′ : ℕ} {t t′ h h′ : List Byte} {c c′ : List Cell} {r r′ : List Ring} {j j′ k k′ : ℕ}
-    → p ≡ p′ → t ≡ t′ → h ≡ h′ → c ≡ c′ → r ≡ r′ → j ≡ j′ → k ≡ k′
-    → state-of s p t h c r j k ≡ state-of s p′ t′ h′ c′ r′ j′ k′
-same-state s {p} {p′} {t} {t′} {h} {h′} {c} {c′} {r} {r′} {j} {j′} {k} {k′} ep et eh ec er ej ek =
-    of.same-state (state-of s p t h c r j k) (state-of s p′ t′ h′ c′ r′ j′ k′) refl ep et eh ec er ej ek
+pub same-state : (s : Sizes) {p p′ : ℕ} {t t′ h h′ : List Byte} {c c′ : List Cell} {r r′ : List Ring}
+    {j j′ k k′ l l′ : ℕ}
+    → p ≡ p′ → t ≡ t′ → h ≡ h′ → c ≡ c′ → r ≡ r′ → j ≡ j′ → k ≡ k′ → l ≡ l′
+    → state-of s p t h c r j k l ≡ state-of s p′ t′ h′ c′ r′ j′ k′ l′
+same-state s {p} {p′} {t} {t′} {h} {h′} {c} {c′} {r} {r′} {j} {j′} {k} {k′} {l} {l′} ep et eh ec er ej ek el =
+    of.same-state (state-of s p t h c r j k l) (state-of s p′ t′ h′ c′ r′ j′ k′ l′) refl ep et eh ec er ej ek el

@@ -33,6 +33,7 @@ exampleRegs = record {
   «head_fill» = 3;
   «tail_mark» = 5;
   «head_mark» = 6;
+  «last_asked» = 1;
 }
 
 -- A cell of kind 0 is empty whatever follows, one of kind 3 is Owed as one of kind 2 is.
@@ -52,7 +53,7 @@ exampleState =
     (byte 2 0x64 ∷ byte 0 0x65 ∷ byte 2 0x66 ∷ [])
     (empty ∷ held 1 0x69 ∷ owed 2 ∷ owed 1 ∷ [])
     (ring 1 2 ∷ ring 0 0 ∷ ring 3 1 ∷ [])
-    5 6
+    5 6 1
 
 -- The counts by queue beside that state, in arrays of 64.
 abbrev pub exampleCounts : ByQueue

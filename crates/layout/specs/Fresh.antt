@@ -1,5 +1,6 @@
--- A fresh state in registers and arrays, every place of them: 0 is an empty cell, and a fill of 0 holds no byte.
-use Prim.Native.Nat.{ℕ}
+-- A fresh state in registers and arrays, every place of them: 0 is an empty cell, and a fill of 0 holds no byte. The
+-- last one asked is the last queue.
+use Prim.Native.Nat.{ℕ, _-_}
 use lib.ListN.{replicate}
 use Rattle.layout.specs.Counts.{ByQueue, byQueue}
 use Rattle.layout.specs.Lengths.{tailPlaces, headPlaces, cellPlaces, queuePlaces}
@@ -16,6 +17,7 @@ freshRegs q b k = record {
   «head_fill» = 0;
   «tail_mark» = 0;
   «head_mark» = 0;
+  «last_asked» = q - 1;
 }
 
 abbrev pub freshArrays : Arrays

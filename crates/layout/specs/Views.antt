@@ -31,7 +31,7 @@ pub record Long (m : Arrays) : Type 0 where
   pub firsts-long : length (m .firsts) ≡ queuePlaces
   pub stored-long : length (m .stored) ≡ queuePlaces
 
--- The registers as an array of eight, in their own order.
+-- The registers as an array of nine, in their own order.
 abbrev pub regsIn : List ℕ → Regs
 regsIn l = record {
   queues = getD l 0 0;
@@ -42,6 +42,7 @@ regsIn l = record {
   «head_fill» = getD l 5 0;
   «tail_mark» = getD l 6 0;
   «head_mark» = getD l 7 0;
+  «last_asked» = getD l 8 0;
 }
 
 abbrev pub sizesIn : Regs → Sizes
@@ -61,4 +62,5 @@ stateIn regs m = record {
   rings = ringsIn (regs .queues) (m .firsts) (m .stored);
   tailMark = regs .«tail_mark»;
   headMark = regs .«head_mark»;
+  lastAsked = regs .«last_asked»;
 }

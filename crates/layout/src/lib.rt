@@ -57,8 +57,8 @@ pub type RingArray = [u8; QUEUE_PLACES];
 
 pub type CountArray = [u16; QUEUE_PLACES];
 
-// Sizes, phase, fills and high marks: all of a state but its arrays. `block` is bytes to a block, `depth` blocks to a
-// queue's ring.
+// Sizes, phase, fills, high marks and the last one asked: all of a state but its arrays. `block` is bytes to a block,
+// `depth` blocks to a queue's ring, `last_asked` the queue that the round robin arbiter asked last.
 pub struct Regs {
     pub queues: usize,
     pub block: usize,
@@ -68,10 +68,11 @@ pub struct Regs {
     pub head_fill: usize,
     pub tail_mark: usize,
     pub head_mark: usize,
+    pub last_asked: usize,
 }
 
 // The registers where a caller lends them, in the same order.
-pub const REGS: usize = 8;
+pub const REGS: usize = 9;
 
 pub type RegArray = [usize; REGS];
 
@@ -88,6 +89,7 @@ pub fn regs_in(regs: &RegArray) -> Regs
         head_fill: regs[5],
         tail_mark: regs[6],
         head_mark: regs[7],
+        last_asked: regs[8],
     }
 }
 
@@ -103,6 +105,7 @@ pub fn put_regs(regs: &mut RegArray, next: Regs)
         next.head_fill,
         next.tail_mark,
         next.head_mark,
+        next.last_asked,
     ];
 }
 

@@ -1,7 +1,7 @@
--- Demand 3. Every list from a fresh state meets it, with any store: its states keep the rules and the invariant, so
--- that 8, 9 and 10 never come; its accepted slots are slots of the ideal buffer, so that the delay is fixed. With a
--- store that is too short no slot is accepted, and the same argument holds. `demand-3` says it.
-use mathlib.Core.Path.{_≡_, refl, ap, sym, _∙_, fun-ext, subst}
+-- Demand 3. Every chain from a fresh state meets it, and so every list, with any store: its states keep the rules and
+-- the invariant, so that 8, 9 and 10 never come; its accepted slots are slots of the ideal buffer, so that the delay is
+-- fixed. With a store that is too short no slot is accepted, and the same argument holds. `demand-3` says it.
+use mathlib.Core.Path.{_≡_, refl, ap, _∙_, fun-ext, subst}
 use mathlib.Core.Bool.{Bool, true, false, not}
 use mathlib.Core.List.{List, [], _∷_, _++_, append-nil}
 use mathlib.Core.Option.{Option, none}
@@ -16,7 +16,9 @@ use Rattle.model.specs.Sizes.{Sizes, Limits, accepts, span, lookahead, s
 use Rattle.model.specs.State.{Byte, empty, State, fresh, owedOf, keeps}
 use Rattle.model.specs.Slot.{Call, oldestCell, wrote, queueToRead, arrivalUnknown, arrivalFull, requestUnknown}
 use Rattle.model.specs.Slot.{nothingToTake, leavesUncovered, tailFull, headFull, refusals, Answer, slot}
-use Rattle.model.specs.Lists.{Step, stepOf, run, Chain, stepsOf, listOf, accepted, requestAt, dueToAll}
+use Rattle.model.specs.Lists.{Step, stepOf, listOf, accepted, requestAt, dueToAll}
+use Rattle.model.specs.Arbiter.{noting}
+use Rattle.model.specs.Chains.{Chain}
 use Rattle.model.specs.Ideal.{Ideal, lineOf, standsFor}
 use Rattle.model.specs.Demand.{CachesHold, NoMiss, RefusedSilent, ListMeets, Demand-3}
 use Rattle.model.proofs.basics.AllOf.{_also_}
@@ -27,40 +29,44 @@ use Rattle.model.proofs.meaning.Steps.{head-looked-at}
 use Rattle.model.proofs.one_slot.Rules.{keeps-holds}
 use Rattle.model.proofs.one_slot.Accepted.{RefusedOrAccepted, was-refused, was-accepted, outcome}
 use Rattle.model.proofs.one_slot.Kept.{looked-at-fits, accept-kept}
-use Rattle.model.proofs.one_slot.Calls.{chain-is-list}
-use Rattle.model.proofs.no_miss.Good.{Good, slot-good, good-fresh}
+use Rattle.model.proofs.one_slot.Chains.{Links, no-link, link, links, run-chain}
+use Rattle.model.proofs.no_miss.Good.{Good, slot-good, good-fresh, good-noted}
 use Rattle.model.proofs.delay.IdealSlot.{same-ideal}
-use Rattle.model.proofs.delay.Delay.{Delays, gives, list-delays, given-is-due, due-from-nothing}
+use Rattle.model.proofs.delay.Delay.{Delays, gives, chain-delays, given-is-due, due-from-nothing}
 use Rattle.model.proofs.delay.Delay.{arrived-since-fresh}
 use Rattle.model.proofs.delay.Sentences.{sentences}
 use Rattle.model.proofs.missing.Misses.{misses}
 
--- What holds of every slot on a good state holds all along a list from one: sizes and the store's length stay.
+-- What holds of every slot on a good state, whatever queue it notes as the last one asked, holds all along a chain from
+-- one: sizes and the store's length stay.
 module _ (limits : Limits) where
   along : (P : Step → Type 0) (s : Sizes) (n : ℕ)
-      → ((x : State) (store : List ℕ) (call : Call) (a : Answer) → Good limits x → x .sizes ≡ s → length store ≡ n
-      → RefusedOrAccepted (full limits) x store call a → P (stepOf x store call a))
-      → (x : State) (store : List ℕ) (calls : List Call) → Good limits x → x .sizes ≡ s → length store ≡ n
-      → All P (run (full limits) x store calls)
-  along P s n f x store [] g e l = tt
-  along P s n f x store (call ∷ calls) g e l =
+      → ((x : State) (store : List ℕ) (call : Call) (a : Answer) (noted : ℕ) → Good limits x → x .sizes ≡ s
+      → length store ≡ n → RefusedOrAccepted (full limits) x store call a → P (stepOf x store call (noting noted a)))
+      → {x : State} {store : List ℕ} {steps : List Step} {last : State} → Links (full limits) x store steps last
+      → Good limits x → x .sizes ≡ s → length store ≡ n → All P steps
+  along P s n f no-link g e l = tt
+  along P s n f (link {x = x} {store = store} call noted below c) g e l =
       let a = slot (full limits) x store call in
       let t = outcome (full limits) x store call in
       let k = slot-good limits x store call a g t in (
-        f x store call a g e l t,
-        along P s n f (a .state) (a .store) calls (k .good) (k .same-sizes ∙ e) (k .same-length ∙ l),
+        f x store call a noted g e l t,
+        along P s n f c
+            (good-noted limits (a .state) noted
+            (rw (k .same-sizes) (below (g .kept .last-below))) (k .good))
+            (k .same-sizes ∙ e) (k .same-length ∙ l),
       )
 
   -- The caches hold, whether the slot is refused or accepted.
-  call-caches : (x : State) (store : List ℕ) (call : Call) (a : Answer) → Good limits x
-      → RefusedOrAccepted (full limits) x store call a → CachesHold (x .sizes) (stepOf x store call a)
-  call-caches x store call a g (was-refused n e) = record {
+  call-caches : (x : State) (store : List ℕ) (call : Call) (a : Answer) (noted : ℕ) → Good limits x
+      → RefusedOrAccepted (full limits) x store call a → CachesHold (x .sizes) (stepOf x store call (noting noted a))
+  call-caches x store call a noted g (was-refused n e) = record {
     tail-joined = g .kept .tail-fits;
     tail-ends = g .kept .tail-fits;
     head-read = g .kept .head-fits;
     head-ends = g .kept .head-fits;
   }
-  call-caches x store call a g (was-accepted f) =
+  call-caches x store call a noted g (was-accepted f) =
       let k = accept-kept (full limits) x store call (omega arith) f .kept in record {
         tail-joined =
             omega (arith, looked-at-fits (full limits) x store call (omega arith) (f .judged), k .tail-fits);
@@ -70,23 +76,23 @@ module _ (limits : Limits) where
       }
 
   -- A refused slot delivers nothing and moves nothing: its answer is `refuse`.
-  refused-silent : (x : State) (store : List ℕ) (call : Call) (a : Answer)
-      → RefusedOrAccepted (full limits) x store call a → RefusedSilent (stepOf x store call a)
-  refused-silent x store call a (was-refused n e) = record {
+  refused-silent : (x : State) (store : List ℕ) (call : Call) (a : Answer) (noted : ℕ)
+      → RefusedOrAccepted (full limits) x store call a → RefusedSilent (stepOf x store call (noting noted a))
+  refused-silent x store call a noted (was-refused n e) = record {
     delivers-nothing = λ z. refl;
     writes-nothing = λ z. refl;
     reads-nothing = λ z. refl;
   }
-  refused-silent x store call a (was-accepted f) = record {
+  refused-silent x store call a noted (was-accepted f) = record {
     delivers-nothing = λ z. absurd (z refl);
     writes-nothing = λ z. absurd (z refl);
     reads-nothing = λ z. absurd (z refl);
   }
 
   -- 8, 9 and 10 never come, since every refusal is 7 or lower.
-  no-miss : (x : State) (store : List ℕ) (call : Call) (a : Answer) → Good limits x
-      → RefusedOrAccepted (full limits) x store call a → NoMiss (stepOf x store call a)
-  no-miss x store call a g t =
+  no-miss : (x : State) (store : List ℕ) (call : Call) (a : Answer) (noted : ℕ) → Good limits x
+      → RefusedOrAccepted (full limits) x store call a → NoMiss (stepOf x store call (noting noted a))
+  no-miss x store call a noted g t =
       let low = slot-good limits x store call a g t .low in record {
         not-8 = λ e. omega (arith, e, low);
         not-9 = λ e. omega (arith, e, low);
@@ -133,23 +139,24 @@ stands-fresh limits s store =
     owed-now : ℕ → ℕ
     owed-now q = owedOf q (replicate (lookahead s) empty)
 
--- Every list of slots.
-pub every-list : (limits : Limits) (s : Sizes) (store : List ℕ) (calls : List Call) → accepts limits s ≡ true
-    → ListMeets s store (listOf (full limits) s store calls)
-every-list limits s store calls e = record {
+-- Every chain of slots.
+pub every-chain : (limits : Limits) (s : Sizes) (store : List ℕ) (steps : List Step) (last : State)
+    → accepts limits s ≡ true → Chain (full limits) (fresh (full limits) s) store steps last → ListMeets s store steps
+every-chain limits s store steps last e c = record {
   bytes = record {
     delay = d .delivers ∙ ap
         (λ (l : List (Option Byte)). take (length slots) (replicate (lookahead s) none ++ l)) due;
     in-time = arrived-since-fresh slots (d .finds);
   };
-  refused = all RefusedSilent (λ y st call a g f l t. refused-silent limits y st call a t);
-  caches = all (CachesHold s) (λ y st call a g f l t.
-      subst (λ (z : Sizes). CachesHold z (stepOf y st call a)) f (call-caches limits y st call a g t));
-  no-miss = all NoMiss (λ y st call a g f l t. no-miss limits y st call a g t);
-  no-3 = all (λ (step : Step). step .number ≡ 3 → ⊥) (λ y st call a g f l t.
+  refused = all RefusedSilent (λ y st call a noted g f l t. refused-silent limits y st call a noted t);
+  caches = all (CachesHold s) (λ y st call a noted g f l t.
+      subst (λ (z : Sizes). CachesHold z (stepOf y st call (noting noted a))) f
+      (call-caches limits y st call a noted g t));
+  no-miss = all NoMiss (λ y st call a noted g f l t. no-miss limits y st call a noted g t);
+  no-3 = all (λ (step : Step). step .number ≡ 3 → ⊥) (λ y st call a noted g f l t.
       never limits 3 (omega arith) (omega arith) y st call a
       (λ h. ap not (keeps-holds (full limits) y (g .kept))) (λ h. absurd (omega (arith, h))) t);
-  no-2 = λ long. all (λ (step : Step). step .number ≡ 2 → ⊥) (λ y st call a g f l t.
+  no-2 = λ long. all (λ (step : Step). step .number ≡ 2 → ⊥) (λ y st call a noted g f l t.
       never limits 2 (omega arith) (omega arith) y st call a (λ h. absurd (omega (arith, h)))
       (λ h. le-ltb (length st) (storeBytes (y .sizes)) (rw f (omega (arith, l)))) t);
 }
@@ -161,29 +168,30 @@ every-list limits s store calls e = record {
     good = good-fresh limits s e
 
     all : (P : Step → Type 0)
-        → ((y : State) (st : List ℕ) (call : Call) (a : Answer) → Good limits y → y .sizes ≡ s
-        → length st ≡ length store → RefusedOrAccepted (full limits) y st call a → P (stepOf y st call a))
-        → All P (run (full limits) x store calls)
-    all P f = along limits P s (length store) f x store calls good refl refl
+        → ((y : State) (st : List ℕ) (call : Call) (a : Answer) (noted : ℕ) → Good limits y → y .sizes ≡ s
+        → length st ≡ length store → RefusedOrAccepted (full limits) y st call a
+        → P (stepOf y st call (noting noted a)))
+        → All P steps
+    all P f = along limits P s (length store) f (links (full limits) c) good refl refl
 
     slots : List Step
-    slots = accepted (run (full limits) x store calls)
+    slots = accepted steps
 
     d : Delays (quiet s) slots
     d = subst (λ (i : Ideal). Delays i slots) (stands-fresh limits s store)
-        (list-delays (full limits) x store calls (omega arith) (good .kept))
+        (chain-delays (full limits) (omega arith) (good .kept) (links (full limits) c))
 
     due : gives (λ q. []) slots ≡ dueToAll slots
     due =
         given-is-due (λ q. []) slots (d .finds)
         ∙ ap (tabulate (length slots)) (fun-ext (λ t. due-from-nothing slots t (requestAt slots t)))
 
--- A chain of calls that keep a slot's promise is such a list.
-every-chain : (limits : Limits) (s : Sizes) (store : List ℕ) (calls : List Call) (answers : List Answer)
-    → accepts limits s ≡ true → Chain (full limits) (fresh (full limits) s) store calls answers
-    → ListMeets s store (stepsOf (fresh (full limits) s) store calls answers)
-every-chain limits s store calls answers e c =
-    subst (ListMeets s store) (sym (chain-is-list (full limits) c)) (every-list limits s store calls e)
+-- Every list of slots is one.
+pub every-list : (limits : Limits) (s : Sizes) (store : List ℕ) (calls : List Call) → accepts limits s ≡ true
+    → ListMeets s store (listOf (full limits) s store calls)
+every-list limits s store calls e =
+    every-chain limits s store (listOf (full limits) s store calls) _ e
+    (run-chain (full limits) (fresh (full limits) s) store calls)
 
 -- The whole of demand 3, under any limits; under the paper's it is demand 3 of the accepted sizes.
 pub demand-3 : (limits : Limits) → Demand-3 limits

@@ -2,7 +2,7 @@
 -- greater, a refused one leaves the state as it came, and a fresh state's marks are 0. `marks-exact` says it.
 use mathlib.Core.Path.{_≡_, refl, ap, _∙_}
 use mathlib.Core.Bool.{Bool}
-use mathlib.Core.List.{List, [], _∷_}
+use mathlib.Core.List.{List, _∷_}
 use mathlib.Core.Option.{Option, none}
 use Prim.Native.Nat.{ℕ, suc, _≤_, max}
 use native.Mathlib.Omega.{arith}
@@ -14,6 +14,8 @@ use Rattle.model.specs.State.{Byte, State, fresh}
 use Rattle.model.specs.Slot.{Call, oldestCell, arriving, tailLeft, swaps, earlyArrival, lateArrival, joined}
 use Rattle.model.specs.Slot.{asked, headRead, wrote, wroteStore, Answer, accept, slot}
 use Rattle.model.specs.Lists.{Step, joinedFillOf, stepOf, run, lastState, listOf, accepted}
+use Rattle.model.specs.Arbiter.{noting}
+use Rattle.model.specs.Chains.{Chain}
 use Rattle.model.specs.HighMarks.{greatest, tailLooks, headLooks, GreatestFills, MarksRise, MarksExact}
 use Rattle.model.proofs.basics.Tests.{by-test}
 use Rattle.model.proofs.meaning.Steps.{tail-looked-at}
@@ -21,6 +23,7 @@ use Rattle.model.proofs.one_slot.StepsKeepRules.{length-tail-left}
 use Rattle.model.proofs.one_slot.Swap.{early-is-none, late-is-none}
 use Rattle.model.proofs.one_slot.Accepted.{RefusedOrAccepted, was-refused, was-accepted, outcome}
 use Rattle.model.proofs.one_slot.Kept.{length-head-without}
+use Rattle.model.proofs.one_slot.Chains.{Links, no-link, link, links, run-chain}
 
 -- Request 2.8: "On a handed-in state the mark is the greater of the old one and the new fill." Of a state that keeps
 -- the rules, since the mark of such a state is at least its fill already. (Of the head it is `head-mark-rises`, in
@@ -49,12 +52,15 @@ tail-mark-rises x store call h =
     looked-at e = ap (λ (b : Bool). length (choose b (asked x call .tail) (joined x call .tail))) e
 
 module _ (design : Design) where
-  -- One slot, and then what the rest of the list does.
-  marks-more : (x : State) (store : List ℕ) (call : Call) (a : Answer) (rest : List Step) (y : State)
-      → RefusedOrAccepted design x store call a → MarksRise (a .state) (accepted rest) y
-      → MarksRise x (accepted (stepOf x store call a ∷ rest)) y
-  marks-more x store call a rest y (was-refused n e) m = rw (ne-eqb (suc n) 0 (λ z. omega arith)) m
-  marks-more x store call a rest y (was-accepted f) m = record {
+  -- One slot, and then what the rest of the chain does.
+  marks-more : (x : State) (store : List ℕ) (call : Call) (a : Answer) (noted : ℕ) (rest : List Step) (y : State)
+      → RefusedOrAccepted design x store call a → MarksRise (noting noted a .state) (accepted rest) y
+      → MarksRise x (accepted (stepOf x store call (noting noted a) ∷ rest)) y
+  marks-more x store call a noted rest y (was-refused n e) m = record {
+    tail-mark = rw (ne-eqb (suc n) 0 (λ z. omega arith)) (m .tail-mark);
+    head-mark = rw (ne-eqb (suc n) 0 (λ z. omega arith)) (m .head-mark);
+  }
+  marks-more x store call a noted rest y (was-accepted f) m = record {
     tail-mark = m .tail-mark
         ∙ ap (λ (n : ℕ). max n (greatest (tailLooks (accepted rest))))
         (tail-mark-rises x store call (f .judged .kept .tail-mark .0))
@@ -65,22 +71,27 @@ module _ (design : Design) where
       max-assoc : (l m n : ℕ) → max (max l m) n ≡ max l (max m n)
       max-assoc l m n = omega arith
 
-  marks-rise : (x : State) (store : List ℕ) (calls : List Call)
-      → MarksRise x (accepted (run design x store calls)) (lastState design x store calls)
-  marks-rise x store [] = record { tail-mark = omega arith; head-mark = omega arith }
-  marks-rise x store (call ∷ calls) =
-      marks-more x store call (slot design x store call)
-      (run design (slot design x store call .state) (slot design x store call .store) calls)
-      (lastState design x store (call ∷ calls)) (outcome design x store call)
-      (marks-rise (slot design x store call .state) (slot design x store call .store) calls)
+  marks-rise : {x : State} {store : List ℕ} {steps : List Step} {last : State} → Links design x store steps last
+      → MarksRise x (accepted steps) last
+  marks-rise no-link = record { tail-mark = omega arith; head-mark = omega arith }
+  marks-rise (link {x = x} {store = store} {steps = steps} {last = last} call noted below c) =
+      marks-more x store call (slot design x store call) noted steps last (outcome design x store call) (marks-rise c)
 
-  since-fresh : (s : Sizes) (store : List ℕ) (calls : List Call)
-      → GreatestFills (accepted (listOf design s store calls)) (lastState design (fresh design s) store calls)
-  since-fresh s store calls =
-      let m = marks-rise (fresh design s) store calls in record {
+  list-marks : (x : State) (store : List ℕ) (calls : List Call)
+      → MarksRise x (accepted (run design x store calls)) (lastState design x store calls)
+  list-marks x store calls = marks-rise (links design (run-chain design x store calls))
+
+  chain-since-fresh : (s : Sizes) (store : List ℕ) (steps : List Step) (last : State)
+      → Chain design (fresh design s) store steps last → GreatestFills (accepted steps) last
+  chain-since-fresh s store steps last c =
+      let m = marks-rise (links design c) in record {
         tail-mark = omega (arith, m .tail-mark);
         head-mark = omega (arith, m .head-mark);
       }
+
+  since-fresh : (s : Sizes) (store : List ℕ) (calls : List Call)
+      → GreatestFills (accepted (listOf design s store calls)) (lastState design (fresh design s) store calls)
+  since-fresh s store calls = chain-since-fresh s store _ _ (run-chain design (fresh design s) store calls)
 
   -- When a mark stays.
   module _ (x : State) (store : List ℕ) (call : Call) where
@@ -132,7 +143,8 @@ module _ (design : Design) where
 pub marks-exact : (design : Design) → MarksExact design
 marks-exact design = record {
   since-fresh = since-fresh design;
-  from-any-state = marks-rise design;
+  every-chain = chain-since-fresh design;
+  from-any-state = list-marks design;
   no-arrival = no-arrival design;
   no-read = no-read design;
   refused = refused design;

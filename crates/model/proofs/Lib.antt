@@ -17,6 +17,8 @@ pub mod delay
 pub mod missing
 -- Demand 3.
 pub mod Demand
+-- Request 2.2: what the round robin arbiter asks, and how long a queue waits for it.
+pub mod arbiter
 -- Request 2.1: what a slot that swaps does, and that all others are as before.
 pub mod Swaps
 -- The high marks are the greatest fills.

@@ -1,5 +1,5 @@
 -- What the definitions share: tests and lists as facts, the limits, sums over queues, and caches, lookahead and rings
--- as each queue sees them.
+-- as each queue sees them; queues counted up and wrapping.
 pub mod Tests
 pub mod AllOf
 pub mod FirstRefusal
@@ -9,3 +9,4 @@ pub mod Bytes
 pub mod Cells
 pub mod Rings
 pub mod States
+pub mod Rounds

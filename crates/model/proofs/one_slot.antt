@@ -1,5 +1,6 @@
 -- A slot is refused whole, or accepted with none of the refusals; an accepted one keeps the rules and the store's
--- length, and changes no byte outside the block that it writes. Calls that keep a slot's promise are a list of slots.
+-- length, and changes no byte outside the block that it writes. Slots that keep their promise, a caller's and the
+-- arbiter's, are a chain.
 pub mod Rules
 pub mod StepsKeepRules
 pub mod MovesKeepRules
@@ -8,4 +9,5 @@ pub mod Accepted
 pub mod Kept
 pub mod Elsewhere
 pub mod Calls
+pub mod Chains
 pub mod Lists

@@ -13,6 +13,8 @@ use Rattle.model.specs.State.{Byte, byte, Cell, empty, held, owed, ring,
 use Rattle.model.specs.State.{withPhase, withTail, withHead, withCells, withRings, withTailMark, withHeadMark}
 use Rattle.model.specs.Slot.{Call, oldestCell, Answer, slot}
 use Rattle.model.specs.Calls.{arrival, request, both, idle}
+use Rattle.model.specs.Lists as lists
+use Rattle.model.specs.Arbiter.{choice, arbiterSlot}
 
 -- What a slot is to answer. Each also says which block moves and what is delivered: none and nothing, but for what it
 -- names.
@@ -33,19 +35,25 @@ pub data Outcome : Type 0 where
   -- An outcome, the fills of tail and head as the slot ends, and the two high marks, the tail's first.
   _fills_and_marks_and_ : Outcome → ℕ → ℕ → ℕ → ℕ → Outcome
 
--- A slot of a list beside the outcome that is expected of it.
+-- A slot of a list beside the outcome that is expected of it. Of a slot in which the arbiter of request 2.2 chooses,
+-- with an arrival or none: the outcome, the queue that it asks or none, and the last one asked after it.
 infix 70 _⇒_
+infix 70 arbiter_then_asks_last_
 pub data Expected : Type 0 where
   _⇒_ : Call → Outcome → Expected
+  arbiter_then_asks_last_ : Option Byte → Outcome → Option ℕ → ℕ → Expected
 
--- The kinds of row. The last one is a list of slots in a design, from a state.
+-- The kinds of row.
 pub data Example : Type 0 where
   sizesTaken : (Q b K L : ℕ) → Example
   sizesRefused : (Q b K number : ℕ) → Example
   sizesAre : (Q b L tail head : ℕ) → Example
   blockIs : (rate grade b : ℕ) → Example
   noBlock : (rate grade number : ℕ) → Example
+  -- A list of slots in a design, from a state.
   slots : Design → State → List Expected → Example
+  -- The queue that the arbiter of request 2.2 chooses with this arrival or none, whatever comes of the slot.
+  chooses : State → Option Byte → Option ℕ → Example
 
 -- A made state, with what a sentence may name of it; blocks are by queue. The rest is as in a fresh state, but for the
 -- marks: they must be at least the fills, and they are the fills.
@@ -111,6 +119,13 @@ abbrev allMeet : Design → State → List ℕ → List Expected → Bool
 allMeet design x store [] = true
 allMeet design x store ((call ⇒ outcome) ∷ expected) =
     let a = slot design x store call in meets outcome none a && allMeet design (a .state) (a .store) expected
+allMeet design x store ((arbiter arrival then outcome asks q last n) ∷ expected) =
+    let a = arbiterSlot design x store arrival in
+    allTrue (
+    meets outcome none a ∷
+    same (lists.taken (a .number) (choice x arrival)) q ∷
+    eqb (a .state .lastAsked) n ∷
+    allMeet design (a .state) (a .store) expected ∷ [])
 
 -- What rests on Q and b alone is taken with K 1. A list of slots gets a store that is just long enough.
 abbrev pub holds : Example → Bool
@@ -123,6 +138,7 @@ holds (sizesAre q b l t h) = allTrue (
 holds (blockIs rate grade b) = eqb (sizingNumber rate grade) 0 && same (sizedBlock rate grade) (some b)
 holds (noBlock rate grade n) = eqb (sizingNumber rate grade) n && same (sizedBlock rate grade) none
 holds (slots design x expected) = allMeet design x (replicate (storeBytes (x .sizes)) 0) expected
+holds (chooses x arrival q) = same (choice x arrival) q
 
 -- C1 to C12. Where a sentence names no K, it is 1. A made state keeps the rules and the store is long enough: 3 and 2
 -- are judged first, and no row answers them.

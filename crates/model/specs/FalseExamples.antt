@@ -1,12 +1,14 @@
 -- Rows that do not hold. Each says one thing otherwise than the slot or the size that it names, so that `holds` and its
 -- tests must look at all that a row of the table of examples says.
 use mathlib.Core.List.{List, [], _∷_}
+use mathlib.Core.Option.{some, none}
 use lib.ListN.{replicate}
 use Rattle.model.specs.Sizes.{sizes, paper}
 use Rattle.model.specs.State.{byte, empty, owed, State, fresh}
 use Rattle.model.specs.Calls.{arrival, request, both, idle}
-use Rattle.model.specs.Examples.{Expected, _⇒_, taken, writes, reads, takenHeld, refused, misses, _delivering_}
-use Rattle.model.specs.Examples.{Example, sizesTaken, sizesRefused, sizesAre, blockIs, noBlock, slots}
+use Rattle.model.specs.Examples.{Expected, _⇒_, arbiter_then_asks_last_, taken, writes, reads, takenHeld, refused}
+use Rattle.model.specs.Examples.{misses, _delivering_}
+use Rattle.model.specs.Examples.{Example, sizesTaken, sizesRefused, sizesAre, blockIs, noBlock, slots, chooses}
 use Rattle.model.specs.Examples.{_fills_and_marks_and_, made_phase_tail_head_cells_blocks_}
 
 -- Slots from a fresh state with b 1, so that L is 1 and each slot may move, and with b 2.
@@ -69,4 +71,17 @@ falseExamples =
     withB2 (arrival 0 65 ⇒ taken fills 0 and 0 marks 1 and 0 ∷ []) ∷
     withB2 (arrival 0 65 ⇒ taken fills 1 and 1 marks 1 and 0 ∷ []) ∷
     withB2 (arrival 0 65 ⇒ taken fills 1 and 0 marks 2 and 0 ∷ []) ∷
-    withB2 (arrival 0 65 ⇒ taken fills 1 and 0 marks 1 and 1 ∷ []) ∷ []
+    withB2 (arrival 0 65 ⇒ taken fills 1 and 0 marks 1 and 1 ∷ []) ∷
+    -- Of the arbiter's slots: another outcome, another queue asked, none asked, another last one; and the slot after
+    -- one gets the state that it left.
+    slots paper (fresh paper (sizes 2 2 1)) ((arbiter some (byte 1 65) then takenHeld 1 66 asks some 1 last 1) ∷ []) ∷
+    slots paper (fresh paper (sizes 2 2 1)) ((arbiter some (byte 1 65) then takenHeld 1 65 asks some 0 last 1) ∷ []) ∷
+    slots paper (fresh paper (sizes 2 2 1)) ((arbiter some (byte 1 65) then takenHeld 1 65 asks none last 1) ∷ []) ∷
+    slots paper (fresh paper (sizes 2 2 1)) ((arbiter some (byte 0 65) then takenHeld 0 65 asks some 0 last 1) ∷ []) ∷
+    slots paper (fresh paper (sizes 2 2 1))
+    ((arbiter some (byte 0 65) then takenHeld 0 65 asks some 0 last 0) ∷
+    (arbiter none then taken asks none last 1) ∷ []) ∷
+    -- A choice that is none, and one of another queue.
+    chooses (fresh paper (sizes 2 2 1)) none (some 0) ∷
+    chooses (fresh paper (sizes 2 2 1)) (some (byte 1 65)) none ∷
+    chooses (fresh paper (sizes 2 2 1)) (some (byte 1 65)) (some 0) ∷ []

@@ -7,6 +7,7 @@ use Rattle.model.specs.Sizes.{Sizes, Design}
 use Rattle.model.specs.State.{State, fresh}
 use Rattle.model.specs.Slot.{Call, slot}
 use Rattle.model.specs.Lists.{Step, run, lastState, listOf, accepted}
+use Rattle.model.specs.Chains.{Chain}
 
 -- The greatest of some fills; 0 where there is none.
 abbrev pub greatest : List ℕ → ℕ
@@ -32,13 +33,18 @@ pub record MarksRise (x : State) (slots : List Step) (y : State) : Type 0 where
   pub tail-mark : y .tailMark ≡ max (x .tailMark) (greatest (tailLooks slots))
   pub head-mark : y .headMark ≡ max (x .headMark) (greatest (headLooks slots))
 
--- Of every list of slots, refused ones included, whatever sizes, state and store. The last three say of one slot when a
+-- Of every list of slots, refused ones included, whatever sizes, state and store; and of every chain, the round robin
+-- arbiter's slots among a caller's. The last three say of one slot when a
 -- mark stays: with no arrival the tail's, with no read the head's (a state that keeps the rules has marks that are at
 -- least the fills, and any other is refused), and both where the slot is refused.
 pub record MarksExact (design : Design) : Type 0 where
   pub since-fresh :
       (s : Sizes) (store : List ℕ) (calls : List Call)
       → GreatestFills (accepted (listOf design s store calls)) (lastState design (fresh design s) store calls)
+  pub every-chain :
+      (s : Sizes) (store : List ℕ) (steps : List Step) (last : State)
+      → Chain design (fresh design s) store steps last
+      → GreatestFills (accepted steps) last
   pub from-any-state :
       (x : State) (store : List ℕ) (calls : List Call)
       → MarksRise x (accepted (run design x store calls)) (lastState design x store calls)

@@ -79,19 +79,6 @@ lastStore design x store (call ∷ calls) =
 abbrev pub Promised : Design → State → List ℕ → Call → Answer → Type 0
 Promised design x store call a = a ≡ slot design x store call
 
--- Any calls of which each keeps that promise, on state and store exactly as the one before left them.
-pub data Chain (design : Design) : State → List ℕ → List Call → List Answer → Type 0 where
-  no-call : {x : State} {store : List ℕ} → Chain design x store [] []
-  next-call : {x : State} {store : List ℕ} {call : Call} {calls : List Call} {a : Answer} {answers : List Answer}
-      → Promised design x store call a
-      → Chain design (a .state) (a .store) calls answers
-      → Chain design x store (call ∷ calls) (a ∷ answers)
-
-abbrev pub stepsOf : State → List ℕ → List Call → List Answer → List Step
-stepsOf x store [] answers = []
-stepsOf x store (call ∷ calls) [] = []
-stepsOf x store (call ∷ calls) (a ∷ answers) = stepOf x store call a ∷ stepsOf (a .state) (a .store) calls answers
-
 -- "The list of demand 3 is a fresh state of accepted sizes, a store with any bytes in it, then any number of slots,
 -- none included."
 abbrev pub listOf : Design → Sizes → List ℕ → List Call → List Step

@@ -1,12 +1,14 @@
 -- The worked cases of the requests of document 02, as a second table beside C1 to C12: rows of the same kinds, under
 -- the request and the sentence that they render.
 use mathlib.Core.List.{List, [], _∷_}
+use mathlib.Core.Option.{some, none}
 use lib.ListN.{replicate}
 use Rattle.model.specs.Sizes.{sizes, paper}
-use Rattle.model.specs.State.{byte, empty, owed, State, fresh, withTailMark, withHeadMark}
-use Rattle.model.specs.Calls.{arrival, both, idle}
-use Rattle.model.specs.Examples.{_⇒_, taken, writes, reads, takenHeld, refused, misses, _delivering_}
-use Rattle.model.specs.Examples.{_fills_and_marks_and_, Example, slots, made_phase_tail_head_cells_blocks_}
+use Rattle.model.specs.State.{byte, empty, owed, State, fresh, withTailMark, withHeadMark, withLastAsked}
+use Rattle.model.specs.Calls.{arrival, request, both, idle}
+use Rattle.model.specs.Examples.{_⇒_, arbiter_then_asks_last_, taken, writes, reads, takenHeld, refused, misses}
+use Rattle.model.specs.Examples.{_delivering_, _fills_and_marks_and_, Example, slots, chooses}
+use Rattle.model.specs.Examples.{made_phase_tail_head_cells_blocks_}
 
 -- Q 1, b 2, K 2: one tail byte, and so a tail mark of 1.
 abbrev oneTailByte : State
@@ -25,6 +27,12 @@ abbrev tailOfFullQueues : State
 tailOfFullQueues =
     made (sizes 2 2 1) phase 0 tail (byte 0 65 ∷ byte 1 66 ∷ byte 0 67 ∷ byte 1 68 ∷ []) head []
     cells (replicate 3 empty) blocks (0 ∷ 0 ∷ [])
+
+-- Q 3, b 2, K 1: a tail byte of each queue.
+abbrev oneByteEach : State
+oneByteEach =
+    made (sizes 3 2 1) phase 0 tail (byte 0 65 ∷ byte 1 66 ∷ byte 2 67 ∷ []) head [] cells (replicate 4 empty)
+    blocks (0 ∷ 0 ∷ 0 ∷ [])
 
 abbrev pub requestExamples : List Example
 requestExamples =
@@ -56,6 +64,44 @@ requestExamples =
     slots paper (made (sizes 1 2 1) phase 0 tail (byte 0 65 ∷ byte 0 66 ∷ []) head [] cells (replicate 2 empty)
     blocks (0 ∷ []))
     (both 0 67 0 ⇒ takenHeld 0 65 fills 2 and 0 marks 2 and 0 ∷ []) ∷
+    -- 2.2, "the last one asked joins the state (below Q, fresh Q - 1)"; "if none has, the slot has no request".
+    slots paper (fresh paper (sizes 3 2 1))
+    ((arbiter none then taken asks none last 2) ∷ []) ∷
+    slots paper (withLastAsked 2 (fresh paper (sizes 2 2 1)))
+    (idle ⇒ refused 3 ∷ (arbiter none then refused 3 asks none last 2) ∷ []) ∷
+    -- "After the arrival of the slot, it asks for the next queue, counting up from the last one asked and wrapping,
+    -- that has an unrequested byte": the byte that arrives is one, and so is a byte in slow store.
+    slots paper (fresh paper (sizes 3 2 1))
+    ((arbiter some (byte 1 65) then takenHeld 1 65 asks some 1 last 1) ∷
+    (arbiter none then taken asks none last 1) ∷
+    (arbiter some (byte 0 66) then takenHeld 0 66 asks some 0 last 0) ∷ []) ∷
+    slots paper (made (sizes 3 2 1) phase 0 tail [] head [] cells (replicate 4 empty) blocks (0 ∷ 1 ∷ 0 ∷ []))
+    ((arbiter none then taken asks some 1 last 1) ∷
+    (arbiter none then reads 1 asks some 1 last 1) ∷
+    (arbiter none then taken asks none last 1) ∷ []) ∷
+    -- Queue 0 was the last one asked: it waits for Q - 1 further slots, and its byte leaves Q - 1 + L slots later.
+    slots paper (withLastAsked 0 oneByteEach)
+    ((arbiter none then takenHeld 1 66 asks some 1 last 1) ∷
+    (arbiter none then takenHeld 2 67 asks some 2 last 2) ∷
+    (arbiter none then takenHeld 0 65 asks some 0 last 0) ∷
+    (arbiter none then taken asks none last 0) ∷
+    (arbiter none then taken delivering byte 1 66 asks none last 0) ∷
+    (arbiter none then taken delivering byte 2 67 asks none last 0) ∷
+    (arbiter none then taken delivering byte 0 65 asks none last 0) ∷ []) ∷
+    -- "A refused slot or a caller's own request leaves it unchanged": 4 comes, whatever would be chosen.
+    slots paper (withLastAsked 0 oneByteEach)
+    ((arbiter some (byte 3 68) then refused 4 asks none last 0) ∷
+    request 2 ⇒ takenHeld 2 67 ∷
+    (arbiter none then takenHeld 1 66 asks some 1 last 1) ∷ []) ∷
+    -- "An arrival to a full queue does not count in the choice": all bytes of the queue are owed, and 5 comes. A full
+    -- queue is asked for its older bytes; the slot is then one of 2.1.
+    slots paper (made (sizes 1 2 1) phase 0 tail [] head [] cells (replicate 2 (owed 0)) blocks (1 ∷ []))
+    ((arbiter some (byte 0 67) then refused 5 asks none last 0) ∷ []) ∷
+    chooses (made (sizes 1 2 1) phase 0 tail [] head [] cells (replicate 2 (owed 0)) blocks (1 ∷ [])) (some (byte 0 67))
+    none ∷
+    slots paper (made (sizes 1 2 1) phase 0 tail (byte 0 65 ∷ byte 0 66 ∷ []) head [] cells (replicate 2 empty)
+    blocks (0 ∷ []))
+    ((arbiter some (byte 0 67) then takenHeld 0 65 asks some 0 last 0) ∷ []) ∷
     -- 2.8, "the tail is looked at just after the arrival joins it": before the request takes the byte, and before it is
     -- written with its block. What was reached stays.
     slots paper (fresh paper (sizes 1 2 2))

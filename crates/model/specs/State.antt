@@ -1,7 +1,7 @@
 -- Document 01, "The state".
 use mathlib.Core.Bool.{Bool, true, not}
 use mathlib.Core.List.{List, [], _∷_}
-use Prim.Native.Nat.{ℕ, _+_, _*_}
+use Prim.Native.Nat.{ℕ, _+_, _-_, _*_}
 use lib.Dec.{eqb, ltb, leb}
 use lib.IntN.{ℤ, pos, _-ℤ_}
 use lib.Signed.{ltZ}
@@ -34,7 +34,8 @@ ring f n = record { first = f; count = n }
 
 -- "The state is one record that carries its caches and lookahead inside it." Every list has its oldest first, the
 -- rings are by queue number. The phase says how far the next move is. "Two states are the same when the items above
--- are": here that is equality.
+-- are": here that is equality. Request 2.2: "the last one asked joins the state", the queue that the round robin
+-- arbiter (Arbiter) asked last.
 pub record State : Type 0 where
   pub sizes : Sizes
   pub phase : ℕ
@@ -44,8 +45,10 @@ pub record State : Type 0 where
   pub rings : List Ring
   pub tailMark : ℕ
   pub headMark : ℕ
+  pub lastAsked : ℕ
 
 -- "A fresh state has all L cells empty from the start, empty caches and rings, first block 0, phase 0, marks 0."
+-- The last one asked is "fresh Q - 1" (2.2), so that the arbiter begins with queue 0.
 abbrev pub fresh : Design → Sizes → State
 fresh design s = record {
   sizes = s;
@@ -56,11 +59,12 @@ fresh design s = record {
   rings = replicate (s .Q) (ring 0 0);
   tailMark = 0;
   headMark = 0;
+  lastAsked = s .Q - 1;
 }
 
 -- A state from its items. A new item of the state is one more here and in each line of the setters below.
-abbrev pub stateFrom : Sizes → ℕ → List Byte → List Byte → List Cell → List Ring → ℕ → ℕ → State
-stateFrom s phase tail head cells rings tailMark headMark = record {
+abbrev pub stateFrom : Sizes → ℕ → List Byte → List Byte → List Cell → List Ring → ℕ → ℕ → ℕ → State
+stateFrom s phase tail head cells rings tailMark headMark lastAsked = record {
   sizes = s;
   phase = phase;
   tail = tail;
@@ -69,36 +73,41 @@ stateFrom s phase tail head cells rings tailMark headMark = record {
   rings = rings;
   tailMark = tailMark;
   headMark = headMark;
+  lastAsked = lastAsked;
 }
 
 -- The state with one item anew, and all others as they were: a step names what it changes, and nothing else.
 abbrev pub withPhase : ℕ → State → State
 withPhase phase x =
-    stateFrom (x .sizes) phase (x .tail) (x .head) (x .cells) (x .rings) (x .tailMark) (x .headMark)
+    stateFrom (x .sizes) phase (x .tail) (x .head) (x .cells) (x .rings) (x .tailMark) (x .headMark) (x .lastAsked)
 
 abbrev pub withTail : List Byte → State → State
 withTail tail x =
-    stateFrom (x .sizes) (x .phase) tail (x .head) (x .cells) (x .rings) (x .tailMark) (x .headMark)
+    stateFrom (x .sizes) (x .phase) tail (x .head) (x .cells) (x .rings) (x .tailMark) (x .headMark) (x .lastAsked)
 
 abbrev pub withHead : List Byte → State → State
 withHead head x =
-    stateFrom (x .sizes) (x .phase) (x .tail) head (x .cells) (x .rings) (x .tailMark) (x .headMark)
+    stateFrom (x .sizes) (x .phase) (x .tail) head (x .cells) (x .rings) (x .tailMark) (x .headMark) (x .lastAsked)
 
 abbrev pub withCells : List Cell → State → State
 withCells cells x =
-    stateFrom (x .sizes) (x .phase) (x .tail) (x .head) cells (x .rings) (x .tailMark) (x .headMark)
+    stateFrom (x .sizes) (x .phase) (x .tail) (x .head) cells (x .rings) (x .tailMark) (x .headMark) (x .lastAsked)
 
 abbrev pub withRings : List Ring → State → State
 withRings rings x =
-    stateFrom (x .sizes) (x .phase) (x .tail) (x .head) (x .cells) rings (x .tailMark) (x .headMark)
+    stateFrom (x .sizes) (x .phase) (x .tail) (x .head) (x .cells) rings (x .tailMark) (x .headMark) (x .lastAsked)
 
 abbrev pub withTailMark : ℕ → State → State
 withTailMark tailMark x =
-    stateFrom (x .sizes) (x .phase) (x .tail) (x .head) (x .cells) (x .rings) tailMark (x .headMark)
+    stateFrom (x .sizes) (x .phase) (x .tail) (x .head) (x .cells) (x .rings) tailMark (x .headMark) (x .lastAsked)
 
 abbrev pub withHeadMark : ℕ → State → State
 withHeadMark headMark x =
-    stateFrom (x .sizes) (x .phase) (x .tail) (x .head) (x .cells) (x .rings) (x .tailMark) headMark
+    stateFrom (x .sizes) (x .phase) (x .tail) (x .head) (x .cells) (x .rings) (x .tailMark) headMark (x .lastAsked)
+
+abbrev pub withLastAsked : ℕ → State → State
+withLastAsked lastAsked x =
+    stateFrom (x .sizes) (x .phase) (x .tail) (x .head) (x .cells) (x .rings) (x .tailMark) (x .headMark) lastAsked
 
 -- "1: sizes outside the limits: no state made." "A making of a state checks 1 only."
 abbrev pub makingNumber : Design → Sizes → ℕ
@@ -162,7 +171,8 @@ isBacked x q = leb (owedCells x q) (headBytes x q + x .sizes .b * blocks x q)
 
 -- "A state keeps the rules when the sizes are accepted, the fields lie in the ranges above, queue numbers are below
 -- Q, fills fit the caches, and for each queue .." the last two. The two high marks are "each at least the present fill
--- and at most the cache size". What it holds as a list has the length that it must have.
+-- and at most the cache size". What it holds as a list has the length that it must have. The last one asked is "below
+-- Q" (2.2).
 abbrev pub rules : Design → State → List Bool
 rules design x =
     accepts (design .limits) (x .sizes) ∷
@@ -178,7 +188,8 @@ rules design x =
     leb (length (x .tail)) (tailSize (x .sizes)) ∷
     leb (length (x .head)) (headSize (x .sizes)) ∷
     allBelow (x .sizes .Q) (hasRoom x) ∷
-    allBelow (x .sizes .Q) (isBacked x) ∷ []
+    allBelow (x .sizes .Q) (isBacked x) ∷
+    ltb (x .lastAsked) (x .sizes .Q) ∷ []
 
 abbrev pub keeps : Design → State → Bool
 keeps design x = allTrue (rules design x)

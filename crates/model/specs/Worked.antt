@@ -53,12 +53,13 @@ workedCalls =
     idle ∷ []
 
 -- A state: phase, tail, head, cells with the oldest first, queue 0's first block and block count, the two high marks.
--- Queue 1 has no block: its bytes travel in their cells.
+-- Queue 1 has no block: its bytes travel in their cells. A caller's own requests leave the last one asked as a fresh
+-- state has it.
 infix 70 phase_tail_head_cells_first_count_marks_and_
 abbrev phase_tail_head_cells_first_count_marks_and_ :
     ℕ → List Byte → List Byte → List Cell → ℕ → ℕ → ℕ → ℕ → State
 phase p tail ts head hs cells cs first f count n marks t and h =
-    stateFrom workedSizes p ts hs cs (ring f n ∷ ring 0 0 ∷ []) t h
+    stateFrom workedSizes p ts hs cs (ring f n ∷ ring 0 0 ∷ []) t h 1
 
 -- A step: its number, what it took, what it delivered, wrote and read, the fills of the tail just after the arrival and
 -- of the head just after the read; store and state as it ends.

@@ -7,6 +7,7 @@ ghost use Rattle.model.specs.Basics.{allOf, someOf};
 ghost use Rattle.model.specs.Sizes.{Limits, Design};
 ghost use Rattle.model.specs.Demand.{Demand-3};
 ghost use Rattle.model.specs.Swap.{SwapSays};
+ghost use Rattle.model.specs.Fairness.{ArbiterSays, Fair};
 ghost use Rattle.model.specs.HighMarks.{MarksExact};
 ghost use Rattle.model.specs.Examples.{examples, holds};
 ghost use Rattle.model.specs.RequestExamples.{requestExamples};
@@ -21,6 +22,11 @@ pub fn demand_3()
 // Request 2.1, in any design: what a slot that swaps does, and that all others answer as before.
 pub fn swap_in_a_full_queue()
     ensures { λ _. ⌜ ((design : Design) → SwapSays design) ⌝ }
+{}
+
+// Request 2.2: what a slot does in which the arbiter chooses, in any design; how long a queue waits, under any limits.
+pub fn round_robin_arbiter()
+    ensures { λ _. ⌜ ((design : Design) → ArbiterSays design) × ((limits : Limits) → Fair limits) ⌝ }
 {}
 
 // Request 2.8, in any design: each high mark is exactly the greatest fill since the fresh state.

@@ -1,12 +1,12 @@
 -- A slot answers a call and the nearest call of 8-bit queues alike: they differ only in queues of 255 and more, which
 -- no state that keeps the rules has (Q is at most 64), and each of these is refused, with 4 or with 6, before anything
 -- looks at which queue it is, but whether the slot swaps: it does not, with an arrival of a queue that there is and a
--- request of one that there is not. `near-slot` says it.
+-- request of one that there is not. `near-slot` says it, and `near-arbiter` of the round robin arbiter.
 use mathlib.Core.Path.{_≡_, refl, ap, sym, _∙_}
 use mathlib.Core.Bool.{Bool, true, false, _&&_, not}
 use mathlib.Core.List.{List}
 use mathlib.Core.Option.{Option, some, none}
-use Prim.Native.Nat.{ℕ, _≤_}
+use Prim.Native.Nat.{ℕ, suc, _≤_}
 use native.Mathlib.Omega.{arith}
 use lib.Dec.{ltb}
 use lib.ListN.{length}
@@ -14,7 +14,9 @@ use borrow.Author.Tests.{ne-eqb, leb-true, leb-false, le-leb}
 use Rattle.model.specs.Sizes.{paper, paperLimits, storeBytes}
 use Rattle.model.specs.State.{Byte, State, keeps}
 use Rattle.model.specs.Slot.{Call, isFull, swapTests, swaps, arrivalUnknown, arrivalFull, requestUnknown, refusal}
-use Rattle.model.specs.Slot.{refuse, slot}
+use Rattle.model.specs.Slot.{Answer, refuse, slot}
+use Rattle.model.specs.Lists.{taken}
+use Rattle.model.specs.Arbiter.{choice, arbiterCall, lastAfter, noting, arbiterSlot}
 use Rattle.model.proofs.basics.Tests.{by-test}
 use Rattle.model.proofs.basics.AllOf.{all-true-not}
 use Rattle.model.proofs.basics.Limits.{within-limits}
@@ -137,3 +139,47 @@ read-slot x store call {arrival} {request} ea er =
     ap (λ (a : Option Byte). slot paper x store (record { arrival = a; request = request })) ea
     ∙ ap (λ (q : Option ℕ). slot paper x store (record { arrival = nearByte (call .arrival); request = q })) er
     ∙ near-slot x store call
+
+-- And so does the round robin arbiter: an arrival of a queue that there is not is refused, whatever would be chosen.
+pub record SameArbiter (x : State) (store : List ℕ) (arrival other : Option Byte) : Type 0 where
+  pub same-slot : arbiterSlot paper x store arrival ≡ arbiterSlot paper x store other
+  pub same-asked : taken (arbiterSlot paper x store arrival .number) (choice x arrival)
+      ≡ taken (arbiterSlot paper x store other .number) (choice x other)
+
+module _ (x : State) (store : List ℕ) (arrival other : Option Byte) where
+  same-arrival : arrival ≡ other → SameArbiter x store arrival other
+  same-arrival e = record {
+    same-slot = ap (arbiterSlot paper x store) e;
+    same-asked = ap (λ (a : Option Byte). taken (arbiterSlot paper x store a .number) (choice x a)) e;
+  }
+
+  both-refused : (n : ℕ) → slot paper x store (arbiterCall x arrival) ≡ refuse (suc n) x store
+      → slot paper x store (arbiterCall x other) ≡ refuse (suc n) x store → SameArbiter x store arrival other
+  both-refused n e f = record {
+    same-slot =
+        ap (λ (a : Answer). noting (lastAfter (a .number) (choice x arrival) (x .lastAsked)) a) e
+        ∙ sym (ap (λ (a : Answer). noting (lastAfter (a .number) (choice x other) (x .lastAsked)) a) f);
+    same-asked =
+        ap (λ (a : Answer). taken (a .number) (choice x arrival)) e
+        ∙ sym (ap (λ (a : Answer). taken (a .number) (choice x other)) f);
+  }
+
+pub near-arbiter : (x : State) (store : List ℕ) (arrival : Option Byte) → SameArbiter x store (nearByte arrival) arrival
+near-arbiter x store arrival = by-test (keeps paper x)
+    (λ kept. by-test (ltb (length store) (storeBytes (x .sizes)))
+    (λ short. both-refused x store near arrival 1 (two x store (call near) kept short)
+    (two x store (call arrival) kept short))
+    (λ long. by-test (arrivalUnknown x arrival)
+    (λ unknown. both-refused x store near arrival 3
+    (four x store (call near) kept long (arrival-above x (few x store (call arrival) kept long) arrival unknown))
+    (four x store (call arrival) kept long unknown))
+    (λ known. same-arrival x store near arrival
+    (arrival-known x (few x store (call arrival) kept long) arrival known))))
+    (λ broken. both-refused x store near arrival 2 (three x store (call near) broken)
+    (three x store (call arrival) broken))
+  where
+    near : Option Byte
+    near = nearByte arrival
+
+    call : Option Byte → Call
+    call = arbiterCall x

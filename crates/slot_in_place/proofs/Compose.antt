@@ -1,7 +1,7 @@
 -- The steps in code compose to the model's accepted slot. Each step's array is the model's list after that step, so
 -- that what the next step asks of it is there: the refusals that were judged on the state as handed in rule out every
 -- case in which a step would have nothing to take or no room.
-use mathlib.Core.Path.{_≡_, ap, sym, _∙_, subst}
+use mathlib.Core.Path.{_≡_, refl, ap, sym, _∙_, subst}
 use mathlib.Core.Bool.{Bool, true, false}
 use mathlib.Core.List.{List, [], _∷_, _++_}
 use mathlib.Core.Option.{Option, some, none}
@@ -321,6 +321,7 @@ module _ (regs : Regs) (m : Arrays) {store : List ℕ} {call : Call} {isOwed′ 
                         «head_fill» = h;
                         «tail_mark» = j;
                         «head_mark» = t;
+                        «last_asked» = regs .«last_asked»;
                       })
                       (arrays tail₃ head₂ cells₁ firsts₁ stored₂)
                       ≡ accept x store call .state
@@ -328,3 +329,4 @@ module _ (regs : Regs) (m : Arrays) {store : List ℕ} {call : Call} {isOwed′ 
                       same-state (sizesIn regs) ep tail-3 head-2 cells-1 rings-2
                       (omega (arith, ej, fj, asked-no-longer x call (judged .covered)))
                       (et ∙ ap (max (regs .«head_mark»)) fh)
+                      refl

@@ -74,6 +74,7 @@ pub fn carry(
             head_fill: head_fill,
             tail_mark: tail_mark,
             head_mark: head_mark,
+            last_asked: regs.last_asked,
         },
         delivery: delivery,
     }

@@ -46,7 +46,7 @@ pub fn is_owed(heads: &[u16], owing: &[u16], stored: &[u8], regs: Regs, request:
 }
 
 // Whether an arrival is of queue q.
-fn arrives_at(arrival: Arrival, q: u8) -> bool
+pub fn arrives_at(arrival: Arrival, q: u8) -> bool
     ensures { λ r. ⌜ r ≡ arrivesAt (arrivalIn arrival) q ⌝ }
 {
     match arrival {
@@ -56,7 +56,7 @@ fn arrives_at(arrival: Arrival, q: u8) -> bool
 }
 
 // Whether a queue has no space left.
-fn is_full(tails: &[u16], stored: &[u8], regs: Regs, q: usize) -> bool
+pub fn is_full(tails: &[u16], stored: &[u8], regs: Regs, q: usize) -> bool
     requires { ⌜ (accepts paperLimits (sizesIn regs) ≡ true)
         × (length (now tails) ≡ queuePlaces) × (length (now stored) ≡ queuePlaces) × (q < regs .queues) ⌝ }
     ensures { λ r. ⌜ r ≡ queueFullNow (figuresIn regs (byQueue (now (tails .entry)) [] []) (now (stored .entry))) q ⌝ }

@@ -63,6 +63,7 @@ module _ (regs : Regs) (m : Arrays) (long : Long m) where
         tail-high = v .tail-mark .1;
         head-low = omega (arith, v .head-mark .0, head-length regs m long head-in);
         head-high = v .head-mark .1;
+        last-below = v .last-below;
       }
 
   -- Where one part fails, the rules do.
@@ -141,6 +142,7 @@ module _ (regs : Regs) (m : Arrays) (long : Long m) where
       head-fits = omega (arith, head-long, f .head-low, f .head-high);
       tail-mark = (omega (arith, tail-long, f .tail-low), f .tail-high);
       head-mark = (omega (arith, head-long, f .head-low), f .head-high);
+      last-below = f .last-below;
     })
       where
         tail-long : length (x .tail) ≡ regs .«tail_fill»

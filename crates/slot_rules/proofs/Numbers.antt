@@ -1,13 +1,13 @@
--- The numbers of a state fit exactly where the sizes are accepted, the phase is below b and each mark lies between its
--- fill and its cache size; and then fills and lookahead lie within their arrays.
+-- The numbers of a state fit exactly where the sizes are accepted, the phase is below b, each mark lies between its
+-- fill and its cache size and the last one asked is below Q; and then fills and lookahead lie within their arrays.
 use mathlib.Core.Path.{_≡_, sym, _∙_}
 use mathlib.Core.Bool.{Bool, true, false, and-true}
 use mathlib.Core.List.{List, [], _∷_}
 use Prim.Native.Nat.{ℕ, _≤_, _<_}
 use native.Mathlib.Omega.{arith}
-use lib.Dec.{ltb, leb}
+use lib.Dec.{ltb}
 use lib.ListN.{getD}
-use borrow.Author.Tests.{ltb-true, lt-ltb, le-leb}
+use borrow.Author.Tests.{ltb-true, lt-ltb}
 use Rattle.model.specs.Basics.{between}
 use Rattle.model.specs.Sizes.{paperLimits, accepts, tailSize, headSize, lookahead}
 use Rattle.model.proofs.basics.Tests.{by-test, between-facts, between-holds}
@@ -26,6 +26,7 @@ pub record Fit (regs : Regs) : Type 0 where
   pub tail-high : regs .«tail_mark» ≤ tailSize (sizesIn regs)
   pub head-low : regs .«head_fill» ≤ regs .«head_mark»
   pub head-high : regs .«head_mark» ≤ headSize (sizesIn regs)
+  pub last-below : regs .«last_asked» < regs .queues
 
 -- The same rules as tests.
 abbrev fitRules : Regs → List Bool
@@ -33,7 +34,8 @@ fitRules regs =
     accepts paperLimits (sizesIn regs) ∷
     ltb (regs .phase) (regs .block) ∷
     between (regs .«tail_fill») (regs .«tail_mark») (tailSize (sizesIn regs)) ∷
-    between (regs .«head_fill») (regs .«head_mark») (headSize (sizesIn regs)) ∷ []
+    between (regs .«head_fill») (regs .«head_mark») (headSize (sizesIn regs)) ∷
+    ltb (regs .«last_asked») (regs .queues) ∷ []
 
 pub fit-facts : (regs : Regs) → regsKeep regs ≡ true → Fit regs
 fit-facts regs e = record {
@@ -43,6 +45,7 @@ fit-facts regs e = record {
   tail-high = tail-marked .1;
   head-low = head-marked .0;
   head-high = head-marked .1;
+  last-below = ltb-true (regs .«last_asked») (regs .queues) (rule 4);
 }
   where
     rule : (i : ℕ) → getD (fitRules regs) i true ≡ true
@@ -57,21 +60,21 @@ fit-facts regs e = record {
 -- Where all but the last rule hold, the last decides.
 pub fit-decided : (regs : Regs) → accepts paperLimits (sizesIn regs) ≡ true → regs .phase < regs .block
     → regs .«tail_fill» ≤ regs .«tail_mark» → regs .«tail_mark» ≤ tailSize (sizesIn regs)
-    → regs .«head_fill» ≤ regs .«head_mark»
-    → leb (regs .«head_mark») (headSize (sizesIn regs)) ≡ regsKeep regs
-fit-decided regs sizes-ok phase-ok tail-low tail-high head-low =
+    → regs .«head_fill» ≤ regs .«head_mark» → regs .«head_mark» ≤ headSize (sizesIn regs)
+    → ltb (regs .«last_asked») (regs .queues) ≡ regsKeep regs
+fit-decided regs sizes-ok phase-ok tail-low tail-high head-low head-high =
     rw (
       sizes-ok,
       lt-ltb (regs .phase) (regs .block) phase-ok,
       between-holds (regs .«tail_fill») (regs .«tail_mark») (tailSize (sizesIn regs)) tail-low tail-high,
-      le-leb (regs .«head_fill») (regs .«head_mark») head-low,
+      between-holds (regs .«head_fill») (regs .«head_mark») (headSize (sizesIn regs)) head-low head-high,
     )
-    (sym (and-true (leb (regs .«head_mark») (headSize (sizesIn regs)))))
+    (sym (and-true (ltb (regs .«last_asked») (regs .queues))))
 
 pub fit-holds : (regs : Regs) → Fit regs → regsKeep regs ≡ true
 fit-holds regs f =
-    sym (fit-decided regs (f .sizes-ok) (f .phase-ok) (f .tail-low) (f .tail-high) (f .head-low))
-    ∙ le-leb (regs .«head_mark») (headSize (sizesIn regs)) (f .head-high)
+    sym (fit-decided regs (f .sizes-ok) (f .phase-ok) (f .tail-low) (f .tail-high) (f .head-low) (f .head-high))
+    ∙ lt-ltb (regs .«last_asked») (regs .queues) (f .last-below)
 
 pub fit-not : (regs : Regs) → (Fit regs → ⊥) → false ≡ regsKeep regs
 fit-not regs h = by-test (regsKeep regs) (λ t. absurd (h (fit-facts regs t))) (λ t. sym t)

@@ -12,14 +12,15 @@ use Rattle.layout.specs.Counts.{byQueue, Tallies}
 use Rattle.layout.specs.Views.{sizesIn}
 use Rattle.slot_rules.specs.declared.RulesJudged.{RulesJudged}
 
--- Accepted sizes, the phase below b, and each mark between its fill and its cache size.
+-- Accepted sizes, the phase below b, each mark between its fill and its cache size, and the last one asked below Q.
 abbrev pub regsKeep : Regs → Bool
 regsKeep regs =
     allTrue (
     accepts paperLimits (sizesIn regs) ∷
     ltb (regs .phase) (regs .block) ∷
     between (regs .«tail_fill») (regs .«tail_mark») (tailSize (sizesIn regs)) ∷
-    between (regs .«head_fill») (regs .«head_mark») (headSize (sizesIn regs)) ∷ [])
+    between (regs .«head_fill») (regs .«head_mark») (headSize (sizesIn regs)) ∷
+    ltb (regs .«last_asked») (regs .queues) ∷ [])
 
 -- The first ring block below K, room for the tail bytes, backing for the Owed cells: by the numbers of one queue, of a
 -- queue among all, and of all.

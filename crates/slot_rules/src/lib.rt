@@ -16,7 +16,7 @@ use layout::Regs;
 use layout::RingArray;
 use layout::TailArray;
 
-// Sizes, phase, fills and high marks.
+// Sizes, phase, fills, high marks and the last one asked.
 fn regs_keep(regs: Regs) -> bool
     ensures { λ r. ⌜ r ≡ regsKeep regs ⌝ }
 {
@@ -34,7 +34,10 @@ fn regs_keep(regs: Regs) -> bool
         if regs.head_mark < regs.head_fill {
             return false;
         }
-        return regs.head_mark <= 2 * span + 1;
+        if 2 * span + 1 < regs.head_mark {
+            return false;
+        }
+        return regs.last_asked < regs.queues;
     }
     false
 }

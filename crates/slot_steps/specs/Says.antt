@@ -55,6 +55,7 @@ moving s tail head rings = record {
   rings = rings;
   tailMark = 0;
   headMark = 0;
+  lastAsked = 0;
 }
 
 -- 4. The write.

@@ -1,4 +1,4 @@
--- `put_regs` meets its contract: the eight numbers stand in the registers' own order.
+-- `put_regs` meets its contract: the nine numbers stand in the registers' own order.
 use mathlib.Core.Path.{refl}
 use Rattle.layout.proofs.put_regs.Statement.{statement}
 use Rattle.layout.proofs.put_regs.Tie as tie

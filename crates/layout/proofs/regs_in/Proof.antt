@@ -28,10 +28,14 @@ element-t22 c = search needs
 element-t25 : tie.Need-element-copy-out-t25
 element-t25 c = search needs
 
+element-t28 : tie.Need-element-copy-out-t28
+element-t28 c = search needs
+
 returns : tie.Need-returns
 returns c = refl
 
 pub regs-in-spec : {M : Type 1} → statement M
 regs-in-spec =
     tie.close
-    (tie.spec element-t4 element-t7 element-t10 element-t13 element-t16 element-t19 element-t22 element-t25 returns)
+    (tie.spec element-t4 element-t7 element-t10 element-t13 element-t16 element-t19 element-t22 element-t25 element-t28
+    returns)

@@ -1,6 +1,6 @@
--- The fixed delay. The accepted slots of a list are slots of the ideal buffer, whose line is a delay line: what its
+-- The fixed delay. The accepted slots of a chain are slots of the ideal buffer, whose line is a delay line: what its
 -- slots deliver is the line as it stood and then what each request was given; and what a request was given is what is
--- due to it. All of it holds from every state that keeps the rules, for any number of cells. `list-delays`,
+-- due to it. All of it holds from every state that keeps the rules, for any number of cells. `chain-delays`,
 -- `given-is-due` and `arrived-since-fresh` say it.
 use mathlib.Core.Path.{_≡_, refl, ap, sym, _∙_, fun-ext, subst}
 use mathlib.Core.List.{List, [], _∷_, _++_, append-assoc}
@@ -14,13 +14,14 @@ use Rattle.model.specs.Basics.{tabulate}
 use Rattle.model.specs.Sizes.{Design}
 use Rattle.model.specs.State.{Byte, State, valuesOf}
 use Rattle.model.specs.Slot.{Call, asByte, arriving, Answer, accept, slot}
-use Rattle.model.specs.Lists.{Step, stepOf, run, accepted, deliveries, arrivalsOf, asks, requestsOf, requestAt}
-use Rattle.model.specs.Lists.{dueTo}
+use Rattle.model.specs.Lists.{Step, stepOf, accepted, deliveries, arrivalsOf, asks, requestsOf, requestAt, dueTo}
+use Rattle.model.specs.Arbiter.{noting}
 use Rattle.model.specs.Ideal.{Ideal, soonest, waitingWith, nextByteOf, idealSlot, standsFor, stream, IsIdealSlot}
 use Rattle.model.proofs.basics.Tests.{eqb-same, none-not-some}
-use Rattle.model.proofs.one_slot.Rules.{Keeps}
+use Rattle.model.proofs.one_slot.Rules.{Keeps, keeps-noted}
 use Rattle.model.proofs.one_slot.Accepted.{RefusedOrAccepted, was-refused, was-accepted, outcome}
 use Rattle.model.proofs.one_slot.Kept.{slot-kept}
+use Rattle.model.proofs.one_slot.Chains.{Links, no-link, link}
 use Rattle.model.proofs.delay.Line.{line-length, first-append}
 use Rattle.model.proofs.delay.IdealSlot.{accepted-is-ideal}
 
@@ -68,28 +69,29 @@ module _ (design : Design) where
       → 1 ≤ length (standsFor x store .line)
   line-long x store h v = omega (arith, line-length (stream x store) (x .cells), v .within .cells-long)
 
-  call-delays : (x : State) (store : List ℕ) (call : Call) (a : Answer) (rest : List Step)
+  call-delays : (x : State) (store : List ℕ) (call : Call) (a : Answer) (noted : ℕ) (rest : List Step)
       → 1 ≤ design .cellCount (x .sizes) → Keeps design x → RefusedOrAccepted design x store call a
       → Delays (standsFor (a .state) (a .store)) (accepted rest)
-      → Delays (standsFor x store) (accepted (stepOf x store call a ∷ rest))
-  call-delays x store call a rest h v (was-refused n e) d = rw (ne-eqb (suc n) 0 (λ z. omega arith)) d
-  call-delays x store call a rest h v (was-accepted f) d =
-      delays-more (standsFor x store) (stepOf x store call a) (accepted rest) (line-long x store h v)
+      → Delays (standsFor x store) (accepted (stepOf x store call (noting noted a) ∷ rest))
+  call-delays x store call a noted rest h v (was-refused n e) d = rw (ne-eqb (suc n) 0 (λ z. omega arith)) d
+  call-delays x store call a noted rest h v (was-accepted f) d =
+      delays-more (standsFor x store) (stepOf x store call (noting noted a)) (accepted rest) (line-long x store h v)
       (ideal .delivers) (ideal .byte-waits)
       (subst (λ (i : Ideal). Delays i (accepted rest)) (ideal .leaves) d)
     where
       ideal : IsIdealSlot x store call (accept x store call)
       ideal = accepted-is-ideal design x store call h (f .judged)
 
-  pub list-delays : (x : State) (store : List ℕ) (calls : List Call)
-      → 1 ≤ design .cellCount (x .sizes) → Keeps design x
-      → Delays (standsFor x store) (accepted (run design x store calls))
-  list-delays x store [] h v = record { delivers = refl; finds = tt }
-  list-delays x store (call ∷ calls) h v =
+  pub chain-delays : {x : State} {store : List ℕ} {steps : List Step} {last : State}
+      → 1 ≤ design .cellCount (x .sizes) → Keeps design x → Links design x store steps last
+      → Delays (standsFor x store) (accepted steps)
+  chain-delays h v no-link = record { delivers = refl; finds = tt }
+  chain-delays h v (link {x = x} {store = store} {steps = steps} call noted below c) =
       let a = slot design x store call in
       let k = slot-kept design x store call h v in
-      call-delays x store call a (run design (a .state) (a .store) calls) h v (outcome design x store call)
-      (list-delays (a .state) (a .store) calls (rw (k .same-sizes) h) (k .kept))
+      call-delays x store call a noted steps h v (outcome design x store call)
+      (chain-delays (rw (k .same-sizes) h)
+      (keeps-noted design (a .state) noted (rw (k .same-sizes) (below (v .last-below))) (k .kept)) c)
 
 -- What a request was given is what is due to it, where `w` waited before the list began.
 abbrev dueFrom : (ℕ → List ℕ) → List Step → ℕ → Option ℕ → Option Byte

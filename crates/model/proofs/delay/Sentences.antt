@@ -45,7 +45,7 @@ module _ (L n : ℕ) (owed : ℕ → Option Byte) where
       (omega (arith, ltb-false t n u, length-take n (replicate L none ++ tabulate n owed))))
 
 -- An element that is there.
-element-at : (l : List ℕ) (i : ℕ) → i < length l → (v : ℕ) × (getElem? l i ≡ some v)
+pub element-at : (l : List ℕ) (i : ℕ) → i < length l → (v : ℕ) × (getElem? l i ≡ some v)
 element-at [] i h = absurd (omega arith)
 element-at (x ∷ l) zero h = (x, refl)
 element-at (x ∷ l) (suc i) h = element-at l i (omega arith)

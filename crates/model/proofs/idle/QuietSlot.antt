@@ -123,6 +123,7 @@ module _ (design : Design) (x : State) (store : List ℕ) (kept : Keeps design x
       ∙ ap (λ (o : Option ℕ). ringsWritten o (asked x idle)) none-written)
       (omega (arith, length-append (x .tail) [], ap length tail-same, kept .tail-mark))
       (omega (arith, ap length head-left, kept .head-mark))
+      refl
 
   pub quiet-slot : slot design x store idle ≡ quietAnswer (quietly 1 x) store
   quiet-slot =

@@ -5,11 +5,11 @@ use mathlib.Core.Path.{_≡_, refl, ap, _∙_}
 use mathlib.Core.Bool.{Bool, true, false, _&&_, not}
 use mathlib.Core.List.{List, _++_}
 use mathlib.Core.Option.{Option, some, none}
-use Prim.Native.Nat.{ℕ, _+_, _-_, _*_, _<_, _≤_, max}
+use Prim.Native.Nat.{ℕ, suc, _+_, _-_, _*_, _<_, _≤_, max}
 use native.Mathlib.Omega.{arith}
 use lib.Dec.{eqb, ltb}
 use lib.ListN.{length, drop, length-replicate, length-append}
-use borrow.Author.Tests.{ltb-true, ltb-false, ne-eqb, eqb-true, eq-eqb, le-leb, not-true}
+use borrow.Author.Tests.{ltb-true, ltb-false, ne-eqb, eqb-true, eq-eqb, le-leb, le-ltb, not-true}
 use Rattle.model.specs.Basics.{choose}
 use Rattle.model.specs.Sizes.{Sizes, Limits, Design, tailSize, full, oneFewer, cycleTime}
 use Rattle.model.specs.State.{Byte, empty, held, owed, State, fresh, valuesOf, countOf, tailBytes, headBytes}
@@ -17,8 +17,9 @@ use Rattle.model.specs.State.{blocks}
 use Rattle.model.specs.Slot.{Call, oldestOf, heldCell, youngestCell, arrivalFull, isFull, swaps, without}
 use Rattle.model.specs.Slot.{oldestCell, deliveryOf, arriving, isOwed, tailLeft, moves, fullest, queueToWrite}
 use Rattle.model.specs.Slot.{afterArrival, refillQueue, queueToRead, joined, nothingToTake, tailFound, tailFull}
-use Rattle.model.specs.Slot.{accept}
+use Rattle.model.specs.Slot.{accept, Answer}
 use Rattle.model.specs.Lists.{joinedFillOf, readFillOf}
+use Rattle.model.specs.Arbiter.{canBeAsked, queueAfter, firstFrom, choice, lastAfter, noting}
 use Rattle.model.proofs.basics.Tests.{by-test, and-left, and-right}
 use Rattle.model.proofs.basics.AllOf.{all-below-facts}
 use Rattle.model.proofs.basics.Bytes.{values-without-same}
@@ -143,3 +144,24 @@ five-exactly x y request room = ap (λ (full : Bool). full && not (swaps x (some
 pub nine-there : (x : State) (y : Byte) (request : Option ℕ)
     → tailSize (x .sizes) ≤ length (tailFound x (some y) request) → tailFull x (some y) request ≡ true
 nine-there x y request full = le-leb (tailSize (x .sizes)) (length (tailFound x (some y) request)) full
+
+-- Request 2.2: "the next queue, counting up from the last one asked and wrapping": queue 0 comes after the last, and
+-- the queue after the last one asked is the first that is looked at.
+pub queues-wrap : (Q q : ℕ) → suc q ≡ Q → queueAfter Q q ≡ 0
+queues-wrap Q q e = rw (le-ltb (suc q) Q (omega (arith, e)))
+
+pub looks-after-the-last : (x : State) (arrival : Option Byte) (n : ℕ) → x .sizes .Q ≡ suc n
+    → canBeAsked x arrival (queueAfter (x .sizes .Q) (x .lastAsked)) ≡ true
+    → choice x arrival ≡ some (queueAfter (x .sizes .Q) (x .lastAsked))
+looks-after-the-last x arrival n e t =
+    ap (λ (m : ℕ). firstFrom (x .sizes .Q) (canBeAsked x arrival) m (queueAfter (x .sizes .Q) (x .lastAsked))) e ∙ rw t
+
+-- The queue asked is noted; "a refused slot or a caller's own request leaves it unchanged".
+pub handed-on : (x : State) (store : List ℕ) (call : Call) → accept x store call .state .lastAsked ≡ x .lastAsked
+handed-on x store call = refl
+
+pub noted-as-last : (last : ℕ) (a : Answer) → noting last a .state .lastAsked ≡ last
+noted-as-last last a = refl
+
+pub refused-leaves-last : (n : ℕ) (request : Option ℕ) (last : ℕ) → lastAfter (suc n) request last ≡ last
+refused-leaves-last n request last = refl

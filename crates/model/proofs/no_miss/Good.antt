@@ -5,14 +5,14 @@ use mathlib.Core.Path.{_≡_, refl, sym, _∙_, subst}
 use mathlib.Core.Bool.{true, false, not}
 use mathlib.Core.List.{List}
 use mathlib.Core.Option.{Option, some, none}
-use Prim.Native.Nat.{ℕ, suc, _+_, _-_, _≤_}
+use Prim.Native.Nat.{ℕ, suc, _+_, _-_, _<_, _≤_}
 use native.Mathlib.Omega.{arith}
 use lib.Dec.{ltb}
 use lib.ListN.{length, length-append}
 use borrow.Author.Tests.{eqb-true, lt-leb, le-ltb}
 use Rattle.model.specs.Basics.{choose, when, All}
 use Rattle.model.specs.Sizes.{storeBytes, Sizes, Limits, accepts, span, lookahead, tailSize, headSize, full}
-use Rattle.model.specs.State.{keeps, Byte, State, fresh, ringOf}
+use Rattle.model.specs.State.{keeps, Byte, State, fresh, ringOf, withLastAsked}
 use Rattle.model.specs.Slot.{arrivalUnknown, arrivalFull, requestUnknown, nothingToTake, Call, afterDelivery}
 use Rattle.model.specs.Slot.{arriving, afterRequest, earlyArrival, lateArrival, tailFound}
 use Rattle.model.specs.Slot.{moves, queueToWrite, afterWrite, queueToRead, blockAt, bytesFor, headRead, afterRead}
@@ -23,7 +23,7 @@ use Rattle.model.proofs.basics.Tests.{by-test, none-not-some}
 use Rattle.model.proofs.basics.FirstRefusal.{low-refusal, when-le}
 use Rattle.model.proofs.basics.Bytes.{length-for}
 use Rattle.model.proofs.meaning.Steps.{move-writes-fullest, no-move-no-write, move-reads-scan, no-move-no-read}
-use Rattle.model.proofs.one_slot.Rules.{Rules, Keeps, keeps-fresh}
+use Rattle.model.proofs.one_slot.Rules.{Rules, Keeps, keeps-fresh, keeps-noted}
 use Rattle.model.proofs.one_slot.Swap.{joins-once, length-found}
 use Rattle.model.proofs.one_slot.Accepted.{Judged, earlyRefusals, judged-facts, RefusedOrAccepted}
 use Rattle.model.proofs.one_slot.Accepted.{was-refused, was-accepted}
@@ -204,4 +204,12 @@ slot-good limits x store call a g (was-accepted f) = record {
   low = omega arith;
   same-sizes = refl;
   same-length = accept-kept (full limits) x store call (omega arith) f .same-length;
+}
+
+-- What is noted as the last one asked has no say in it, as long as it is a queue.
+pub good-noted : (limits : Limits) (x : State) (noted : ℕ) → noted < x .sizes .Q → Good limits x
+    → Good limits (withLastAsked noted x)
+good-noted limits x noted l g = record {
+  kept = keeps-noted (full limits) x noted l (g .kept);
+  invariant = search (g .invariant);
 }

@@ -254,6 +254,7 @@ module _ (design : Design) (x : State) (store : List ℕ) (call : Call)
       head-fits = head-fits′;
       tail-mark = (omega (arith, tail-low), omega (arith, joined-fits, asked-fits, j .kept .tail-mark));
       head-mark = (omega arith, omega (arith, head-fits′, j .kept .head-mark));
+      last-below = j .kept .last-below;
     };
     same-sizes = refl;
     same-length = same-length design x store call cells-ok j;

@@ -8,7 +8,7 @@ use lib.ListN.{length, getD, length-replicate}
 use borrow.Author.Tests.{eqb-true, eq-eqb, leb-true, le-leb, ltb-true, lt-ltb}
 use Rattle.model.specs.Sizes.{Sizes, Design, accepts, tailSize, headSize}
 use Rattle.model.specs.State.{ring, State, fresh, tailBytes, headBytes, owedCells, ringOf, blocks, firstInRange}
-use Rattle.model.specs.State.{hasRoom, isBacked, rules, keeps, makingNumber}
+use Rattle.model.specs.State.{withLastAsked, hasRoom, isBacked, rules, keeps, makingNumber}
 use Rattle.model.proofs.basics.Tests.{and-both, between-facts, between-holds}
 use Rattle.model.proofs.basics.AllOf.{all-below-facts, all-below-holds, all-true-at}
 use Rattle.model.proofs.basics.FirstRefusal.{when-zero}
@@ -39,6 +39,7 @@ pub record Keeps (design : Design) (x : State) : Type 0 where
   pub head-fits : length (x .head) ≤ headSize (x .sizes)
   pub tail-mark : (length (x .tail) ≤ x .tailMark) × (x .tailMark ≤ tailSize (x .sizes))
   pub head-mark : (length (x .head) ≤ x .headMark) × (x .headMark ≤ headSize (x .sizes))
+  pub last-below : x .lastAsked < x .sizes .Q
 
 pub keeps-facts : (design : Design) (x : State) → keeps design x ≡ true → Keeps design x
 keeps-facts design x e = record {
@@ -61,6 +62,7 @@ keeps-facts design x e = record {
   head-fits = leb-true (length (x .head)) (headSize (x .sizes)) (rule 11);
   tail-mark = between-facts (length (x .tail)) (x .tailMark) (tailSize (x .sizes)) (rule 5);
   head-mark = between-facts (length (x .head)) (x .headMark) (headSize (x .sizes)) (rule 6);
+  last-below = ltb-true (x .lastAsked) Q (rule 14);
 }
   where
     Q : ℕ
@@ -87,7 +89,8 @@ keeps-holds design x v =
     (and-both _ _ (le-leb (length (x .head)) (headSize (x .sizes)) (v .head-fits))
     (and-both _ _ (all-below-holds Q (hasRoom x) (λ q l. le-leb _ (x .sizes .K * x .sizes .b) (v .within .room q l)))
     (and-both _ _ (all-below-holds Q (isBacked x) (λ q l. le-leb (owedCells x q) _ (v .within .backed q l)))
-    refl)))))))))))))
+    (and-both _ _ (lt-ltb (x .lastAsked) Q (v .last-below))
+    refl))))))))))))))
   where
     Q : ℕ
     Q = x .sizes .Q
@@ -119,4 +122,19 @@ keeps-fresh design s e = record {
   head-fits = omega arith;
   tail-mark = (omega arith, omega arith);
   head-mark = (omega arith, omega arith);
+  last-below = omega (arith, within-limits (design .limits) s e .q-low);
+}
+
+-- The last one asked has a rule of its own, and no other looks at it.
+pub keeps-noted : (design : Design) (x : State) (noted : ℕ) → noted < x .sizes .Q → Keeps design x
+    → Keeps design (withLastAsked noted x)
+keeps-noted design x noted l v = record {
+  sizes-ok = v .sizes-ok;
+  phase-ok = v .phase-ok;
+  within = search (v .within);
+  tail-fits = v .tail-fits;
+  head-fits = v .head-fits;
+  tail-mark = v .tail-mark;
+  head-mark = v .head-mark;
+  last-below = l;
 }

@@ -288,7 +288,7 @@ late-taken x call covered known y e = (known y comes-now, subst Room same (room-
 no-arrival : (y : State) → length (y .tail) ≤ y .tailMark → afterArrival none y ≡ y
 no-arrival y h =
     same-state (afterArrival none y) y refl refl (append-nil (y .tail)) refl refl refl
-    (omega (arith, h, length-append (y .tail) [])) refl
+    (omega (arith, h, length-append (y .tail) [])) refl refl
 
 pub request-first : (x : State) (call : Call) → swaps x (call .arrival) (call .request) ≡ true
     → length (x .tail) ≤ x .tailMark

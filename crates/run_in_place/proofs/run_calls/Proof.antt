@@ -52,21 +52,26 @@ loop-holds c =
       no-first read,
     )
 
-mul-answer-call : tie.Need-mul-answer-call Inv-loop μ-loop
-mul-answer-call c = search needs
-
-shared-slice-read-answer-call : tie.Need-shared-slice-read-answer-call Inv-loop μ-loop
-shared-slice-read-answer-call c = search needs
-
 -- The way back through one turn of the loop.
 abbrev answered : tie.After-slice-known3 Inv-loop μ-loop → tie.After-answer-call Inv-loop μ-loop
 answered c = c .before .before
 
+abbrev lent : tie.After-answer-call-arg8 Inv-loop μ-loop → tie.In-loop Inv-loop μ-loop
+lent c = c .before .before .before .before .before .before .before .before .before
+
 abbrev tested : tie.After-answer-call-arg9 Inv-loop μ-loop → tie.In-loop Inv-loop μ-loop
-tested c = c .before .before .before .before .before .before .before .before .before .before .before
+tested c = lent (c .before .before)
 
 abbrev start : tie.In-loop Inv-loop μ-loop → tie.Start Inv-loop μ-loop
 start c = c .before .before .before .before .before .before .before
+
+mul-answer-call : tie.Need-mul-answer-call Inv-loop μ-loop
+mul-answer-call c =
+    let turn = lent c in
+    omega (arith, turn .loop-test .taken, start turn .good .1 .1 .1 .1 .1 .1 .1 .1 .1 .0)
+
+shared-slice-read-answer-call : tie.Need-shared-slice-read-answer-call Inv-loop μ-loop
+shared-slice-read-answer-call c = search needs
 
 answer-call-requires : tie.Need-answer-call-requires Inv-loop μ-loop
 answer-call-requires c κs = tested c .before .loop .inv .0

@@ -92,7 +92,7 @@ add-result : tie.Need-add-result
 add-result c = omega (arith, blocks-small c, c .before .before .shared-slice-known2 .given (queue (tested c)))
 
 returns-2 : tie.Need-returns-2
-returns-2 c = search needs
+returns-2 c = rw (c .enum-told .given .1)
 
 returns-3 : tie.Need-returns-3
 returns-3 c =

@@ -28,6 +28,9 @@ at-tail-mark c = at-tail (c .before .before .before)
 abbrev at-head : tie.Else5 → tie.Then1
 at-head c = at-tail-mark (c .before .before)
 
+abbrev at-head-mark : tie.Else6 → tie.Then1
+at-head-mark c = at-head (c .before .before)
+
 abbrev smallOf : tie.Then1 → Regs
 smallOf c = c .before .before .args .regs
 
@@ -58,26 +61,31 @@ returns-3 c = fit-not (smallOf (at-tail (c .before .before .before))) (λ f. ome
 returns-4 : tie.Need-returns-4
 returns-4 c = fit-not (smallOf (at-tail-mark (c .before .before))) (λ f. omega (arith, f .head-low, c .if5 .taken))
 
-mul-result : tie.Need-mul-result
-mul-result c = record { fits = omega (arith, limits (at-head c)) }
+mul-if6 : tie.Need-mul-if6
+mul-if6 c = record { fits = omega (arith, limits (at-head c)) }
 
-add-result : tie.Need-add-result
-add-result c = record { fits = omega (arith, limits (at-head c)) }
+add-if6 : tie.Need-add-if6
+add-if6 c = record { fits = omega (arith, limits (at-head c)) }
 
 returns-5 : tie.Need-returns-5
-returns-5 c =
-    let head = c .before in
+returns-5 c = fit-not (smallOf (at-head (c .before .before))) (λ f. omega (arith, f .head-high, c .if6 .taken))
+
+returns-6 : tie.Need-returns-6
+returns-6 c =
+    let head-mark = c .before in
+    let head = head-mark .before .before in
     let tail-mark = head .before .before in
     let tail = tail-mark .before .before .before in
     let phase = tail .before .before in
-    fit-decided (smallOf (at-head head)) (sizes-ok (at-head head))
+    fit-decided (smallOf (at-head-mark head-mark)) (sizes-ok (at-head-mark head-mark))
     (omega (arith, phase .if2 .left))
     (omega (arith, tail .if3 .left))
     (omega (arith, tail-mark .if4 .left))
     (omega (arith, head .if5 .left))
+    (omega (arith, head-mark .if6 .left))
 
-returns-6 : tie.Need-returns-6
-returns-6 c =
+returns-7 : tie.Need-returns-7
+returns-7 c =
     fit-not (c .before .before .args .regs)
     (λ f. true-not-false _ (f .sizes-ok) (sym (c .before .accepted .ensures) ∙ c .if1 .left))
 
@@ -93,7 +101,8 @@ regs-keep-spec =
     add-if4
     returns-3
     returns-4
-    mul-result
-    add-result
+    mul-if6
+    add-if6
     returns-5
-    returns-6)
+    returns-6
+    returns-7)

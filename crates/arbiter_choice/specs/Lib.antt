@@ -1,0 +1,2 @@
+-- The arbiter's choice by the figures of a state.
+pub mod Says

@@ -1,0 +1,2 @@
+-- Why the composition is the model's slot.
+pub mod Composed

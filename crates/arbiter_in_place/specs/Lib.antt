@@ -1,0 +1,2 @@
+-- What a slot in which the arbiter chooses promises of lent arrays.
+pub mod Says

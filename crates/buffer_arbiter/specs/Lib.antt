@@ -1,0 +1,3 @@
+-- What a slot by value promises in which the arbiter chooses, and how long a queue waits over such calls.
+pub mod Says
+pub mod Served

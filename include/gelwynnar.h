@@ -40,23 +40,27 @@
 extern "C" {
 #endif
 
-/* The interface that this page describes. A caller that may meet another library asks gel_version() first. In 2 some
- * slots are accepted that 1 refused with 5 (see there); all else is as in 1. */
-#define GEL_VERSION 2
+/* The interface that this page describes. A caller that may meet another library asks gel_version() first. What is not
+ * as in 1:
+ *    2: some slots are accepted that 1 refused with 5 (see there);
+ *    3: a ninth register, the queue that the round robin arbiter asked last; and gel_arbiter_slot and gel_arbiter_step,
+ *       in which it chooses the request. */
+#define GEL_VERSION 3
 
 uint32_t gel_version(void);
 
 /* ---- The buffer ------------------------------------------------------------------------------------------------ */
 
 /* How long the arrays of a buffer are. */
-#define GEL_REGS 8
+#define GEL_REGS 9
 #define GEL_TAIL_PLACES 2144
 #define GEL_HEAD_PLACES 4034
 #define GEL_CELL_PLACES 2017
 #define GEL_QUEUE_PLACES 64
 
-/* The registers, by their place in `regs`: Q, b, K, the phase, the bytes in each cache, and the high marks, each the
- * greatest fill of its cache since the buffer was opened. */
+/* The registers, by their place in `regs`: Q, b, K, the phase, the bytes in each cache, the high marks, each the
+ * greatest fill of its cache since the buffer was opened, and the queue that the round robin arbiter asked last, which
+ * is below Q, and Q - 1 in a fresh buffer. */
 enum gel_reg {
     GEL_QUEUES,
     GEL_BLOCK,
@@ -65,7 +69,8 @@ enum gel_reg {
     GEL_TAIL_FILL,
     GEL_HEAD_FILL,
     GEL_TAIL_MARK,
-    GEL_HEAD_MARK
+    GEL_HEAD_MARK,
+    GEL_LAST_ASKED
 };
 
 /* A buffer: the state of the paper, and beside it counts by queue, which are the library's own. A copy of it and of the
@@ -127,6 +132,13 @@ static inline gel_answer gel_answer_of(uint64_t word) {
     return a;
 }
 
+/* What a slot answers in which the round robin arbiter chooses: as any slot, and the queue that it asked. */
+typedef struct gel_arbiter_answer {
+    gel_answer slot;
+    uint8_t asks;        /* 1 where the slot is accepted and asked for `asked`; else both are 0 */
+    uint16_t asked;
+} gel_arbiter_answer;
+
 /* What a stretch of idle slots answers: how many were tried, and what the last of them answered. All before it were
  * accepted, and neither delivered nor moved. */
 typedef struct gel_stretch {
@@ -138,8 +150,9 @@ typedef struct gel_stretch {
  * it are one slice; where the number is 0, the pointer may be NULL. No array and no slice overlaps another one: the
  * answers of a run do not go over its calls. Nothing is kept after the call.
  *
- * gel_slot, gel_run and gel_idle take whatever lies in the arrays, the counts by queue too. Where the state keeps the
- * rules, they leave the counts right, so that gel_step may follow; where it breaks one, which is 3, as they came. */
+ * gel_slot, gel_arbiter_slot, gel_run and gel_idle take whatever lies in the arrays, the counts by queue too. Where the
+ * state keeps the rules, they leave the counts right, so that gel_step or gel_arbiter_step may follow; where it breaks
+ * one, which is 3, as they came. */
 
 /* A fresh buffer of Q queues, b bytes to a block, K blocks of slow store to a queue: 0; or 1, with nothing changed. */
 uint8_t gel_open(size_t queues, size_t block, size_t depth, size_t *regs, uint16_t *tail, uint16_t *head,
@@ -152,11 +165,28 @@ gel_answer gel_slot(size_t *regs, uint16_t *tail, uint16_t *head, uint32_t *cell
                     size_t store_bytes);
 
 /* The same slot, not judging 3 and 2, which is quicker. The caller owes two things: only this library has written the
- * arrays since gel_open answered 0, or since gel_slot, gel_run or gel_idle of a slot or more answered neither 3 nor 2
- * (or they are a whole copy of such); and the store has Q x K x b bytes or more. Without them the step is undefined. */
+ * arrays since gel_open answered 0, or since gel_slot, gel_arbiter_slot, gel_run or gel_idle of a slot or more answered
+ * neither 3 nor 2 (or they are a whole copy of such); and the store has Q x K x b bytes or more. Without them the step
+ * is undefined. */
 gel_answer gel_step(size_t *regs, uint16_t *tail, uint16_t *head, uint32_t *cells, uint8_t *firsts, uint8_t *stored,
                     uint16_t *tails, uint16_t *heads, uint16_t *owing, uint64_t call, uint8_t *store,
                     size_t store_bytes);
+
+/* One slot in which the round robin arbiter chooses the request: of the call's word only the arrival is looked at. It
+ * asks for the next queue, counting up from the last one asked (regs[GEL_LAST_ASKED]) and wrapping, that has an
+ * unrequested byte, this slot's arrival counted unless its queue is full; where none has, the slot has no request. Then
+ * it is gel_slot with that request, whatever lies in the arrays and in the store, and 6 and 7 never come. The last one
+ * asked moves only where the slot is accepted and a queue was asked; a request of the caller's own leaves it.
+ * If from then on every slot is the arbiter's, a queue with an unrequested byte is asked within Q accepted slots, that
+ * slot included, and its front byte leaves at most Q - 1 + L accepted slots later, if so many come. */
+gel_arbiter_answer gel_arbiter_slot(size_t *regs, uint16_t *tail, uint16_t *head, uint32_t *cells, uint8_t *firsts,
+                                    uint8_t *stored, uint16_t *tails, uint16_t *heads, uint16_t *owing, uint64_t call,
+                                    uint8_t *store, size_t store_bytes);
+
+/* The same slot, not judging 3 and 2, which is quicker. The caller owes what he owes to gel_step. */
+gel_arbiter_answer gel_arbiter_step(size_t *regs, uint16_t *tail, uint16_t *head, uint32_t *cells, uint8_t *firsts,
+                                    uint8_t *stored, uint16_t *tails, uint16_t *heads, uint16_t *owing, uint64_t call,
+                                    uint8_t *store, size_t store_bytes);
 
 /* Many slots, as gel_slot one after the other: as many as there are calls and places for their answers, refused ones
  * included. 0, or 3 or 2, which then each of them answers; that is judged of no slots too. */
@@ -189,6 +219,16 @@ static inline gel_answer gel_buffer_slot(gel_buffer *g, uint64_t call, uint8_t *
 static inline gel_answer gel_buffer_step(gel_buffer *g, uint64_t call, uint8_t *store, size_t store_bytes) {
     return gel_step(g->regs, g->tail, g->head, g->cells, g->firsts, g->stored, g->tails, g->heads, g->owing, call,
                     store, store_bytes);
+}
+static inline gel_arbiter_answer gel_buffer_arbiter_slot(gel_buffer *g, uint64_t call, uint8_t *store,
+                                                         size_t store_bytes) {
+    return gel_arbiter_slot(g->regs, g->tail, g->head, g->cells, g->firsts, g->stored, g->tails, g->heads, g->owing,
+                            call, store, store_bytes);
+}
+static inline gel_arbiter_answer gel_buffer_arbiter_step(gel_buffer *g, uint64_t call, uint8_t *store,
+                                                         size_t store_bytes) {
+    return gel_arbiter_step(g->regs, g->tail, g->head, g->cells, g->firsts, g->stored, g->tails, g->heads, g->owing,
+                            call, store, store_bytes);
 }
 static inline uint8_t gel_buffer_run(gel_buffer *g, const uint64_t *calls, uint64_t *answers, size_t count,
                                      uint8_t *store, size_t store_bytes) {

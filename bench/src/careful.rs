@@ -35,9 +35,10 @@ struct Queue {
     read_next: u8,
 }
 
-pub static CAREFUL: Natural = Natural::of::<Buffer>("careful natural Rust");
+pub static CAREFUL: Natural = Natural::of::<Buffer<false>, Buffer<true>>("careful natural Rust");
 
-pub struct Buffer {
+/// With `ARBITER` it keeps what the arbiter looks at; a list that is all the caller's does without.
+pub struct Buffer<const ARBITER: bool> {
     sizes: Sizes,
     /// Bytes of slow store that a slot asks for.
     store_bytes: usize,
@@ -45,12 +46,16 @@ pub struct Buffer {
     cells: Vec<Cell>,
     oldest: usize,
     queues: [Queue; MOST_QUEUES],
+    /// A bit for each queue that has a byte to ask for, so that the arbiter need not search, and the queue that it
+    /// asked last.
+    askable: u64,
+    last_asked: usize,
     tail: Tail,
     head: Head,
 }
 
-impl Model for Buffer {
-    fn fresh(sizes: Sizes) -> Option<Buffer> {
+impl<const ARBITER: bool> Model for Buffer<ARBITER> {
+    fn fresh(sizes: Sizes) -> Option<Self> {
         if !sizes.accepted() {
             return None;
         }
@@ -63,12 +68,14 @@ impl Model for Buffer {
             cells: vec![Cell::Empty; sizes.lookahead()],
             oldest: 0,
             queues: [queue; MOST_QUEUES],
+            askable: 0,
+            last_asked: sizes.queues - 1,
             tail: Tail::new(sizes),
             head: Head::new(sizes),
         })
     }
 
-    #[inline]
+    #[inline(always)]
     fn try_slot(&mut self, arrival: Arrival, request: Request, store: &mut [u8]) -> Result<u64, u8> {
         // Everything is judged before anything moves.
         if store.len() < self.store_bytes {
@@ -120,6 +127,10 @@ impl Model for Buffer {
                 Cell::Held(queue, self.tail.leave(queue))
             }
         };
+        if let Some(queue) = request.filter(|_| ARBITER) {
+            let none_left = self.queues[queue as usize].unasked == 0 && self.tail.lacks(queue);
+            self.askable &= !(u64::from(none_left) << queue);
+        }
         self.join(arrival.filter(|_| swaps));
         self.oldest += 1;
         if self.oldest == self.cells.len() {
@@ -135,23 +146,55 @@ impl Model for Buffer {
         Ok(answer)
     }
 
+    #[inline(always)]
+    fn try_arbiter_slot(&mut self, arrival: Arrival, store: &mut [u8]) -> Result<(u64, Request), u8> {
+        let request = self.choice(arrival);
+        let answer = self.try_slot(arrival, request, store)?;
+        if let Some(queue) = request {
+            self.last_asked = queue as usize;
+        }
+        Ok((answer, request))
+    }
+
+    fn last_asked(&self) -> usize {
+        self.last_asked
+    }
+
     fn marks(&self) -> [usize; 2] {
         [self.tail.mark(), self.head.mark()]
     }
 }
 
-impl Buffer {
+impl<const ARBITER: bool> Buffer<ARBITER> {
+    /// Request 2.2: the next queue, counting up from the last one asked and wrapping, that has a byte to ask for. The
+    /// one that arrives counts, unless its queue is full.
+    fn choice(&self, arrival: Arrival) -> Request {
+        let mut askable = self.askable;
+        if let Some((queue, _)) = arrival {
+            if (queue as usize) < self.sizes.queues && self.queues[queue as usize].room > 0 {
+                askable |= 1 << queue;
+            }
+        }
+        // In two shifts, since the last one asked may be the last bit.
+        let above = askable & (u64::MAX << self.last_asked) << 1;
+        let round = if above == 0 { askable } else { above };
+        (round != 0).then(|| round.trailing_zeros() as u16)
+    }
+
     /// An arriving byte joins the tail.
-    #[inline]
+    #[inline(always)]
     fn join(&mut self, arrival: Arrival) {
         if let Some((queue, value)) = arrival {
             self.queues[queue as usize].room -= 1;
+            if ARBITER {
+                self.askable |= 1 << queue;
+            }
             self.tail.join(queue, value);
         }
     }
 
     /// The fullest queue sends a block to its ring.
-    #[inline]
+    #[inline(always)]
     fn write(&mut self, store: &mut [u8]) -> Option<u16> {
         let Sizes { block, depth, .. } = self.sizes;
         let number = self.tail.fullest(block)?;
@@ -164,7 +207,7 @@ impl Buffer {
     }
 
     /// The oldest order is served: the first block of its queue's ring goes to the head.
-    #[inline]
+    #[inline(always)]
     fn read(&mut self, store: &[u8]) -> Option<u16> {
         let Sizes { block, depth, .. } = self.sizes;
         let order = self.head.next_order()?;

@@ -10,6 +10,7 @@ pub mod traffic;
 pub mod words;
 
 use gelwynnar::Answer;
+use words::Request;
 
 /// The sizes of the table.
 pub const TABLE_SIZES: [Sizes; 3] = [Sizes::new(4, 3, 20), Sizes::new(16, 8, 8), Sizes::new(63, 33, 4)];
@@ -67,23 +68,34 @@ pub type RunThenIdle = fn(Sizes, &[u64], &mut Lent, usize) -> bool;
 
 /// What a run writes to: an answer word for each call, the slow store, and the high marks of the state that it
 /// leaves, the tail's first. A way whose answers are structs keeps them as they came, so that what the comparison makes
-/// of them is not in its time.
+/// of them is not in its time. Where the arbiter has slots of the list, the queue that it asked in each, and the last
+/// one asked of the state.
 #[derive(Clone, PartialEq)]
 pub struct Lent {
     pub answers: Vec<u64>,
     pub told: Vec<Answer>,
     pub store: Vec<u8>,
     pub marks: [usize; 2],
+    pub asked: Vec<Request>,
+    pub last_asked: usize,
 }
 
-/// No answer has this number.
+/// No answer has this number, and there is no such queue.
 const UNTOLD: u8 = u8::MAX;
+const UNASKED: u16 = u16::MAX;
 
 impl Lent {
     /// No answer and no mark looks like these, so that one left out is seen.
     pub fn new(calls: usize, store: Vec<u8>) -> Lent {
         let untold = Answer { number: UNTOLD, ..Answer::default() };
-        Lent { answers: vec![u64::MAX; calls], told: vec![untold; calls], store, marks: [usize::MAX; 2] }
+        Lent {
+            answers: vec![u64::MAX; calls],
+            told: vec![untold; calls],
+            store,
+            marks: [usize::MAX; 2],
+            asked: vec![Some(UNASKED); calls],
+            last_asked: usize::MAX,
+        }
     }
 
     /// The answers that were told as structs, as words.

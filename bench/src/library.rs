@@ -3,9 +3,9 @@
 //!
 //! Each way writes an answer for each call, a run as words, which are those of `words`, and leaves the high marks.
 
-use gelwynnar::{reg, Answer, Blocks, Cells, Counts, Head, Regs, Stretch, Tail};
+use gelwynnar::{reg, Answer, ArbiterAnswer, Blocks, Cells, Counts, Head, Regs, Stretch, Tail};
 
-use crate::words::refused;
+use crate::words::{is_arbiters, refused, Request};
 use crate::{Lent, Sizes};
 
 /// One checked slot for each call.
@@ -23,6 +23,29 @@ pub fn steps(sizes: Sizes, calls: &[u64], lent: &mut Lent) -> bool {
     }
     // Safe: the store is long enough.
     buffer.one_by_one(|buffer, call, store| unsafe { buffer.step(call, store) }, calls, lent);
+    true
+}
+
+/// One checked slot for each call, the caller's own or the arbiter's.
+pub fn arbiter_slots(sizes: Sizes, calls: &[u64], lent: &mut Lent) -> bool {
+    let Some(mut buffer) = Buffer::open(sizes) else { return false };
+    buffer.by_turns(Buffer::slot, Buffer::arbiter_slot, calls, lent);
+    true
+}
+
+/// The same by steps.
+pub fn arbiter_steps(sizes: Sizes, calls: &[u64], lent: &mut Lent) -> bool {
+    let Some(mut buffer) = Buffer::open(sizes) else { return false };
+    if lent.store.len() < sizes.store() {
+        return false;
+    }
+    // Safe: the store is long enough.
+    buffer.by_turns(
+        |buffer, call, store| unsafe { buffer.step(call, store) },
+        |buffer, call, store| unsafe { buffer.arbiter_step(call, store) },
+        calls,
+        lent,
+    );
     true
 }
 
@@ -101,6 +124,21 @@ impl Buffer {
         unsafe { gelwynnar::step(self.arrays(), call, store) }
     }
 
+    /// One slot in which the arbiter chooses. Everything is judged.
+    pub fn arbiter_slot(&mut self, call: u64, store: &mut [u8]) -> ArbiterAnswer {
+        gelwynnar::arbiter_slot(self.arrays(), call, store)
+    }
+
+    /// The same slot, with a store that is long enough.
+    ///
+    /// # Safety
+    ///
+    /// The store has Q × K × b bytes or more.
+    pub unsafe fn arbiter_step(&mut self, call: u64, store: &mut [u8]) -> ArbiterAnswer {
+        // Safe then, as `step` is.
+        unsafe { gelwynnar::arbiter_step(self.arrays(), call, store) }
+    }
+
     /// Many slots, an answer word for each: 0, or the number that all of them answer.
     pub fn run(&mut self, calls: &[u64], answers: &mut [u64], store: &mut [u8]) -> u8 {
         assert_eq!(calls.len(), answers.len());
@@ -115,6 +153,11 @@ impl Buffer {
     /// The most bytes that the tail and the head cache have held.
     pub fn marks(&self) -> [usize; 2] {
         [self.regs[reg::TAIL_MARK], self.regs[reg::HEAD_MARK]]
+    }
+
+    /// The queue that the arbiter asked last.
+    pub fn last_asked(&self) -> usize {
+        self.regs[reg::LAST_ASKED]
     }
 
     /// The arrays, lent for one call.
@@ -136,4 +179,31 @@ impl Buffer {
         }
         lent.marks = self.marks();
     }
+
+    /// The same with slots of the caller's own and of the arbiter's, the queues that it asks, and the last one asked.
+    fn by_turns(
+        &mut self,
+        slot: impl Fn(&mut Buffer, u64, &mut [u8]) -> Answer,
+        arbiter_slot: impl Fn(&mut Buffer, u64, &mut [u8]) -> ArbiterAnswer,
+        calls: &[u64],
+        lent: &mut Lent,
+    ) {
+        assert_eq!([calls.len(); 2], [lent.told.len(), lent.asked.len()]);
+        for ((&call, told), asked) in calls.iter().zip(&mut lent.told).zip(&mut lent.asked) {
+            if is_arbiters(call) {
+                let answer = arbiter_slot(self, call, &mut lent.store);
+                (*told, *asked) = (answer.slot, request_in(&answer));
+            } else {
+                (*told, *asked) = (slot(self, call, &mut lent.store), None);
+            }
+        }
+        lent.marks = self.marks();
+        lent.last_asked = self.last_asked();
+    }
+}
+
+/// The queue that the arbiter asked, where it asked one.
+#[inline]
+pub fn request_in(answer: &ArbiterAnswer) -> Request {
+    (answer.asks == 1).then_some(answer.asked)
 }

@@ -9,7 +9,7 @@ use std::process::exit;
 
 use bench::careful::CAREFUL;
 use bench::natural::PLAIN;
-use bench::traffic::{prelude, Traffic};
+use bench::traffic::{prelude, ArbiterTraffic, Traffic};
 use bench::{by_value, library, Lent, Run, RunThenIdle, Sizes, TABLE_SIZES};
 use table::Table;
 use timing::best_times;
@@ -24,6 +24,10 @@ const LISTS: [(usize, [(&str, Run); 2]); 2] = [
 /// Natural Rust passes idle slots one by one, the library by the count.
 const IDLE_WAY: (&str, RunThenIdle) = ("idle slots by the count", library::run_then_idle);
 const IDLE_SLOTS: usize = 1_000_000;
+
+/// The arbiter chooses in the slots that are its own, and the others are steps.
+const ARBITER_WAY: (&str, Run) = ("arbiter step, lent arrays", library::arbiter_steps);
+const ARBITER_SLOTS: usize = 400_000;
 
 const SEED: u64 = 12345;
 
@@ -52,6 +56,14 @@ fn main() {
                 table.row(sizes, traffic.name(), one.0, slots, [plain, careful, first]);
                 table.row(sizes, traffic.name(), other.0, slots, [plain, careful, second]);
             }
+        }
+        for traffic in ArbiterTraffic::ALL {
+            let calls = &traffic.calls(sizes, ARBITER_SLOTS, SEED);
+            let models = [PLAIN, CAREFUL].map(|model| (model.name, model.run_arbiter));
+            let ways = [models[0], models[1], ARBITER_WAY];
+            let lent = &lent(sizes, ARBITER_SLOTS);
+            let times = best_times(ways, lent, |run, lent| run(sizes, calls, lent));
+            table.row(sizes, traffic.name(), ARBITER_WAY.0, ARBITER_SLOTS, times);
         }
         let calls = &prelude(sizes);
         let models = [PLAIN, CAREFUL].map(|model| (model.name, model.run_then_idle));

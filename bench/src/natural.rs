@@ -28,7 +28,7 @@ struct Queue {
     blocks: usize,
 }
 
-pub static PLAIN: Natural = Natural::of::<Buffer>("plain natural Rust");
+pub static PLAIN: Natural = Natural::of::<Buffer, Buffer>("plain natural Rust");
 
 pub struct Buffer {
     sizes: Sizes,
@@ -41,6 +41,8 @@ pub struct Buffer {
     /// The most bytes that each cache has held: the tail as an arrival joins it, the head as a block is read.
     tail_mark: usize,
     head_mark: usize,
+    /// The queue that the arbiter asked last.
+    last_asked: usize,
 }
 
 impl Model for Buffer {
@@ -54,10 +56,11 @@ impl Model for Buffer {
             head_bytes: 0,
             tail_mark: 0,
             head_mark: 0,
+            last_asked: sizes.queues - 1,
         })
     }
 
-    #[inline]
+    #[inline(always)]
     fn try_slot(&mut self, arrival: Arrival, request: Request, store: &mut [u8]) -> Result<u64, u8> {
         let block = self.sizes.block;
 
@@ -155,6 +158,20 @@ impl Model for Buffer {
             | read.map_or(0, words::read))
     }
 
+    #[inline(always)]
+    fn try_arbiter_slot(&mut self, arrival: Arrival, store: &mut [u8]) -> Result<(u64, Request), u8> {
+        let request = self.choice(arrival);
+        let answer = self.try_slot(arrival, request, store)?;
+        if let Some(queue) = request {
+            self.last_asked = queue as usize;
+        }
+        Ok((answer, request))
+    }
+
+    fn last_asked(&self) -> usize {
+        self.last_asked
+    }
+
     fn marks(&self) -> [usize; 2] {
         [self.tail_mark, self.head_mark]
     }
@@ -184,8 +201,24 @@ impl Buffer {
             && !queue.tail.is_empty()
     }
 
+    /// Request 2.2: the next queue, counting up from the last one asked and wrapping, that has an unrequested byte.
+    /// The one that arrives counts, unless its queue is full.
+    pub fn choice(&self, arrival: Arrival) -> Request {
+        let arriving = arrival.map(|(queue, _)| queue as usize).filter(|&number| {
+            let queue = self.queues.get(number);
+            queue.is_some_and(|queue| !queue.is_full(self.sizes))
+        });
+        let next = self.last_asked + 1;
+        let mut round = (next..self.queues.len()).chain(0..next);
+        let asked = round.find(|&number| {
+            let queue = &self.queues[number];
+            queue.has_unasked(self.sizes.block) || !queue.tail.is_empty() || arriving == Some(number)
+        });
+        asked.map(|number| number as u16)
+    }
+
     /// An arriving byte joins the tail.
-    #[inline]
+    #[inline(always)]
     fn join(&mut self, arrival: Arrival) {
         if let Some((queue, value)) = arrival {
             self.queues[queue as usize].tail.push_back(value);
@@ -197,7 +230,7 @@ impl Buffer {
     /// The queue of the first Owed cell that its queue's head bytes do not cover. `joining` is the queue of
     /// an Owed cell about to join. The cell about to leave is scanned with the rest: it is covered, and uses
     /// up the head byte that it delivers.
-    #[inline]
+    #[inline(always)]
     fn uncovered(&self, joining: Option<u16>) -> Option<u16> {
         let mut left = [0; MOST_QUEUES];
         for (left, queue) in left.iter_mut().zip(&self.queues) {
@@ -228,7 +261,7 @@ impl Buffer {
     }
 
     /// The oldest tail bytes of a queue go to the next block of its ring.
-    #[inline]
+    #[inline(always)]
     fn write(&mut self, number: u16, store: &mut [u8]) {
         let Sizes { block, depth, .. } = self.sizes;
         let queue = &mut self.queues[number as usize];
@@ -241,7 +274,7 @@ impl Buffer {
     }
 
     /// The first block of a queue's ring goes to the head.
-    #[inline]
+    #[inline(always)]
     fn read(&mut self, number: u16, store: &[u8]) {
         let Sizes { block, depth, .. } = self.sizes;
         let queue = &mut self.queues[number as usize];

@@ -1,5 +1,9 @@
 //! Lists of calls, one word for each slot, the same list for the same seed.
 
+mod arbiter;
+
+pub use arbiter::ArbiterTraffic;
+
 use crate::words::call;
 use crate::Sizes;
 

@@ -21,6 +21,20 @@ pub fn halves(call: u64) -> (Arrival, Request) {
     (arrival, request)
 }
 
+/// A bit of a call that the library does not look at: the lists of this benchmark have it where the arbiter chooses the
+/// request (request 2.2).
+const ARBITERS: u64 = 1 << 63;
+
+/// The call of a slot in which the arbiter chooses.
+pub fn arbiters_call(arrival: Arrival) -> u64 {
+    ARBITERS | call(arrival, None)
+}
+
+/// Whether the arbiter chooses in the slot of a call.
+pub fn is_arbiters(call: u64) -> bool {
+    call & ARBITERS != 0
+}
+
 // An answer is the parts of it that there are: 0 where nothing left and nothing moved. Bits 41 to 55, slots left and
 // what was dropped, are 0.
 

@@ -1,6 +1,8 @@
 //! The library's ways and both natural models say the same, slot by slot, and leave the same store and the same high
 //! marks.
 
+#[path = "agree/arbiter.rs"]
+mod arbiter;
 #[path = "agree/examples.rs"]
 mod examples;
 #[path = "agree/idle.rs"]

@@ -6,7 +6,7 @@ from ctypes import c_size_t, c_uint8, c_uint16, c_uint32, c_uint64
 
 class Buffer(ctypes.Structure):
     _fields_ = [
-        ("regs", c_size_t * 8),
+        ("regs", c_size_t * 9),
         ("tail", c_uint16 * 2144),
         ("head", c_uint16 * 4034),
         ("cells", c_uint32 * 2017),

@@ -1,4 +1,5 @@
-//! The proved library for Rust callers: what include/gelwynnar.h declares, safe to call but for `step`.
+//! The proved library for Rust callers: what include/gelwynnar.h declares, safe to call but for `step` and
+//! `arbiter_step`.
 //!
 //! Here is the buffer, in arrays that the caller lends; `sizes` has the sizing rule, `script` the scripts. The header
 //! says what each function promises and what the numbers and words are.
@@ -8,10 +9,10 @@ pub mod script;
 pub mod sizes;
 
 /// The interface that the header describes; `version` tells the one that is linked.
-pub const VERSION: u32 = 2;
+pub const VERSION: u32 = 3;
 
 /// How long the arrays of a buffer are.
-pub const REGS: usize = 8;
+pub const REGS: usize = 9;
 pub const TAIL_PLACES: usize = 2144;
 pub const HEAD_PLACES: usize = 4034;
 pub const CELL_PLACES: usize = 2017;
@@ -37,6 +38,7 @@ pub mod reg {
     pub const HEAD_FILL: usize = 5;
     pub const TAIL_MARK: usize = 6;
     pub const HEAD_MARK: usize = 7;
+    pub const LAST_ASKED: usize = 8;
 }
 
 /// The arrays of one buffer, lent for one call. Each may lie wherever the caller has it.
@@ -85,6 +87,16 @@ impl Answer {
     }
 }
 
+/// What a slot answers in which the round robin arbiter chooses: as any slot, and the queue that it asked.
+#[repr(C)]
+#[derive(Clone, Copy, Debug, Default, PartialEq, Eq)]
+pub struct ArbiterAnswer {
+    pub slot: Answer,
+    /// 1 where the slot is accepted and asked for `asked`; else both are 0.
+    pub asks: u8,
+    pub asked: u16,
+}
+
 /// What a stretch of idle slots answers: how many were tried, and what the last of them answered.
 #[repr(C)]
 #[derive(Clone, Copy, Debug, Default, PartialEq, Eq)]
@@ -100,8 +112,8 @@ pub fn version() -> u32 {
 }
 
 // Each call below is safe for the same reason: an array is as long as its type says, which is what the header asks for,
-// and a pointer goes with the length of its own slice; none overlap, since each is borrowed by itself; the library stays
-// within and keeps none.
+// and a pointer goes with the length of its own slice; none overlap, since each is borrowed by itself; the library
+// stays within and keeps none.
 
 /// A fresh buffer, in arrays that may hold anything: 0; or 1, with nothing changed, where the sizes are refused.
 #[inline]
@@ -119,11 +131,28 @@ pub fn slot(lent: Lent, call: u64, store: &mut [u8]) -> Answer {
 ///
 /// # Safety
 ///
-/// Only the library has written the arrays since `open` answered 0, or since `slot`, `run` or `idle` of a slot or more
-/// answered neither 3 nor 2; and the store has Q × K × b bytes or more.
+/// Only the library has written the arrays since `open` answered 0, or since `slot`, `arbiter_slot`, `run` or `idle` of
+/// a slot or more answered neither 3 nor 2; and the store has Q × K × b bytes or more.
 #[inline]
 pub unsafe fn step(lent: Lent, call: u64, store: &mut [u8]) -> Answer {
     raw::gel_step(lent, call, store.as_mut_ptr(), store.len())
+}
+
+/// One slot in which the round robin arbiter chooses, whatever the arrays and the store hold. Of the call's word only
+/// the arrival is looked at.
+#[inline]
+pub fn arbiter_slot(lent: Lent, call: u64, store: &mut [u8]) -> ArbiterAnswer {
+    unsafe { raw::gel_arbiter_slot(lent, call, store.as_mut_ptr(), store.len()) }
+}
+
+/// The same slot, not judging 3 and 2, which is quicker.
+///
+/// # Safety
+///
+/// As for `step`.
+#[inline]
+pub unsafe fn arbiter_step(lent: Lent, call: u64, store: &mut [u8]) -> ArbiterAnswer {
+    raw::gel_arbiter_step(lent, call, store.as_mut_ptr(), store.len())
 }
 
 /// Many slots, as many as there are calls and places for their answers, a word for each: 0, or 3 or 2, which then each

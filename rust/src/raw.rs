@@ -2,7 +2,7 @@
 
 use crate::script::{Fault, Numbers, Reading, Writing};
 use crate::sizes::Memories;
-use crate::{Answer, Blocks, Cells, Counts, Head, Lent, Regs, Stretch, Tail};
+use crate::{Answer, ArbiterAnswer, Blocks, Cells, Counts, Head, Lent, Regs, Stretch, Tail};
 
 extern "C" {
     pub fn gel_version() -> u32;
@@ -74,6 +74,8 @@ over_a_buffer! {
     fn gel_open(queues: usize, block: usize, depth: usize;) -> u8;
     fn gel_slot(; call: u64, store: *mut u8, store_bytes: usize) -> Answer;
     fn gel_step(; call: u64, store: *mut u8, store_bytes: usize) -> Answer;
+    fn gel_arbiter_slot(; call: u64, store: *mut u8, store_bytes: usize) -> ArbiterAnswer;
+    fn gel_arbiter_step(; call: u64, store: *mut u8, store_bytes: usize) -> ArbiterAnswer;
     fn gel_run(; calls: *const u64, calls_count: usize, answers: *mut u64, answers_count: usize,
                store: *mut u8, store_bytes: usize) -> u8;
     fn gel_idle(; slots: usize, store: *mut u8, store_bytes: usize) -> Stretch;

@@ -111,6 +111,7 @@ static void nine_slots(void) {
     CHECK(by_slot.regs[GEL_PHASE] == 1);
     CHECK(by_slot.regs[GEL_TAIL_FILL] == 0 && by_slot.regs[GEL_HEAD_FILL] == 0);
     CHECK(by_slot.regs[GEL_TAIL_MARK] == 2 && by_slot.regs[GEL_HEAD_MARK] == 2);
+    CHECK(by_slot.regs[GEL_LAST_ASKED] == 1);
     CHECK(alike(&by_slot, &by_run) && memcmp(slot_store, run_store, STORE) == 0);
     CHECK(slot_store[0] == 'a' && slot_store[1] == 'b');
     /* A place to come back to. */
@@ -127,7 +128,8 @@ static void sizes_refused(void) {
     CHECK(gel_buffer_open(&other, 2, 129, 4) == 1 && gel_buffer_open(&other, 2, 2, 256) == 1);
     CHECK(gel_buffer_open(&other, 64, 33, 1) == 1 && gel_buffer_open(&other, SIZE_MAX, SIZE_MAX, SIZE_MAX) == 1);
     CHECK(same_buffer(&other, &by_slot));
-    CHECK(gel_buffer_open(&other, 64, 32, 255) == 0 && gel_buffer_open(&other, 1, 1, 1) == 0);
+    CHECK(gel_buffer_open(&other, 64, 32, 255) == 0 && other.regs[GEL_LAST_ASKED] == 63);
+    CHECK(gel_buffer_open(&other, 1, 1, 1) == 0 && other.regs[GEL_LAST_ASKED] == 0);
 }
 
 /* A slot of `other` with this call is refused so, by judging too, and all is as it came. */
@@ -159,6 +161,11 @@ static void slots_refused(void) {
     CHECK(gel_buffer_slot(&other, gel_arrive(0, 'z'), other_store, 1).writes == 1 && other_store[0] == 'z');
     CHECK(refused(gel_buffer_slot(&other, gel_arrive(0, 'z'), other_store, 1), 5));
     /* A state that breaks a rule. */
+    CHECK(gel_buffer_open(&other, 2, 2, 4) == 0);
+    other.regs[GEL_LAST_ASKED] = 2;
+    CHECK(refuses(gel_nothing(), 3));
+    other.regs[GEL_LAST_ASKED] = 0;
+    CHECK(same(gel_buffer_slot(&other, gel_nothing(), other_store, STORE), nothing) && other.regs[GEL_LAST_ASKED] == 0);
     CHECK(gel_buffer_open(&other, 2, 2, 4) == 0);
     other.regs[GEL_PHASE] = 2;
     other.tails[0] = 77;
@@ -206,6 +213,121 @@ static void counts_mended(void) {
     CHECK(same(gel_buffer_slot(&other, gel_nothing(), other_store, STORE), nothing) && counts_right());
     CHECK(gel_buffer_run(&other, NULL, NULL, 0, other_store, STORE) == 0 && counts_right());
     CHECK(gel_buffer_idle(&other, 7, other_store, STORE).passed == 7 && counts_right());
+    CHECK(gel_buffer_arbiter_slot(&other, gel_arrive(2, 'z'), other_store, STORE).slot.number == 4 && counts_right());
+    CHECK(gel_buffer_arbiter_slot(&other, gel_nothing(), NULL, 0).slot.number == 2 && counts_right());
+}
+
+/* ---- The round robin arbiter ----------------------------------------------------------------------------------- */
+
+/* A slot of `other` in which the arbiter chooses. The step does the same to a copy. */
+static gel_arbiter_answer arbitrate(uint64_t call) {
+    gel_arbiter_answer a, b;
+    by_step = other;
+    memcpy(step_store, other_store, STORE);
+    a = gel_buffer_arbiter_slot(&other, call, other_store, STORE);
+    b = gel_buffer_arbiter_step(&by_step, call, step_store, STORE);
+    CHECK(same(a.slot, b.slot) && a.asks == b.asks && a.asked == b.asked);
+    CHECK(alike(&other, &by_step) && memcmp(other_store, step_store, STORE) == 0);
+    return a;
+}
+
+/* It is accepted, asks for this queue, and moves nothing else. */
+static int asks(uint64_t call, uint16_t queue) {
+    gel_arbiter_answer a = arbitrate(call);
+    return same(a.slot, nothing) && a.asks == 1 && a.asked == queue && other.regs[GEL_LAST_ASKED] == queue;
+}
+
+/* It is accepted, and asks for none. */
+static int asks_none(uint64_t call, gel_answer wanted) {
+    size_t last = other.regs[GEL_LAST_ASKED];
+    gel_arbiter_answer a = arbitrate(call);
+    return same(a.slot, wanted) && a.asks == 0 && a.asked == 0 && other.regs[GEL_LAST_ASKED] == last;
+}
+
+static int arbiter_refused(gel_arbiter_answer a, uint8_t number) {
+    return refused(a.slot, number) && a.asks == 0 && a.asked == 0;
+}
+
+/* It is refused so, and all is as it came. */
+static int arbiter_refuses(uint64_t call, uint8_t number) {
+    static gel_buffer before;
+    uint8_t store[STORE];
+    before = other;
+    memcpy(store, other_store, STORE);
+    return arbiter_refused(arbitrate(call), number) && same_buffer(&other, &before) &&
+           memcmp(store, other_store, STORE) == 0;
+}
+
+static void arbiter_chooses(void) {
+    const gel_answer delivers_a = {0, 0, 1, 0, 0, 'a', 0, 0, 0, 0};
+    const gel_answer delivers_b = {0, 0, 1, 0, 0, 'b', 1, 0, 0, 0};
+    gel_arbiter_answer a;
+    /* A fresh buffer has nothing to ask for; a byte that arrives is asked for at once. */
+    CHECK(gel_buffer_open(&other, 3, 2, 1) == 0);
+    CHECK(asks_none(gel_nothing(), nothing) && other.regs[GEL_LAST_ASKED] == 2 && other.regs[GEL_PHASE] == 1);
+    CHECK(gel_buffer_open(&other, 3, 2, 1) == 0);
+    CHECK(asks(gel_arrive(1, 'z'), 1) && other.cells[3] == 65536 + 256 + 'z' && other.regs[GEL_TAIL_FILL] == 0);
+    /* Both queues have a byte, and 1 was asked last: first 0, then 1, then none. L = 3 slots later they leave. */
+    CHECK(gel_buffer_open(&other, 2, 2, 4) == 0 && other.regs[GEL_LAST_ASKED] == 1);
+    CHECK(same(gel_buffer_slot(&other, gel_arrive(0, 'a'), other_store, STORE), nothing));
+    CHECK(same(gel_buffer_slot(&other, gel_arrive(1, 'b'), other_store, STORE), nothing));
+    CHECK(asks(gel_nothing(), 0) && asks(gel_nothing(), 1) && asks_none(gel_nothing(), nothing));
+    CHECK(asks_none(gel_nothing(), delivers_a) && asks_none(gel_nothing(), delivers_b));
+    /* A caller's own request leaves the last one asked, and the arbiter goes on from there. */
+    CHECK(gel_buffer_open(&other, 2, 2, 4) == 0);
+    CHECK(asks(gel_arrive(0, 'a'), 0));
+    CHECK(same(gel_buffer_slot(&other, gel_both(1, 'b', 1), other_store, STORE), nothing));
+    CHECK(same(gel_buffer_step(&other, gel_arrive(0, 'c'), other_store, STORE), nothing));
+    CHECK(other.regs[GEL_LAST_ASKED] == 0 && gel_buffer_judge(&other, gel_ask(1), STORE) == 7);
+    /* In an arbiter's slot it is not looked at, nor are the other bits: 1 has no byte, and 65,535 is no queue. */
+    a = arbitrate(gel_ask(1) | (uint64_t)0x3fffff << 42);
+    CHECK(same(a.slot, delivers_a) && a.asks == 1 && a.asked == 0);
+}
+
+/* One byte of each of four queues, all in store: the last waits Q - 1 slots to be asked, and leaves L = 1 later. */
+static void greatest_wait(void) {
+    CHECK(gel_buffer_open(&other, 4, 1, 1) == 0);
+    for (uint16_t queue = 0; queue < 4; queue++) {
+        CHECK(gel_buffer_slot(&other, gel_arrive(queue, (uint8_t)('a' + queue)), other_store, STORE).writes == 1);
+    }
+    for (uint16_t t = 0; t < 5; t++) {
+        gel_arbiter_answer a = arbitrate(gel_ask(9));
+        CHECK(a.slot.number == 0 && a.asks == (t < 4) && a.asked == (t < 4 ? t : 0) && a.slot.reads == a.asks);
+        CHECK(a.slot.delivers == (t > 0) && (t == 0 || (a.slot.queue == t - 1 && a.slot.value == 'a' + t - 1)));
+    }
+    CHECK(other.regs[GEL_LAST_ASKED] == 3);
+}
+
+static void arbiter_is_refused(void) {
+    gel_arbiter_answer a;
+    CHECK(gel_buffer_open(&other, 2, 2, 4) == 0);
+    CHECK(arbiter_refuses(gel_arrive(2, 'z'), 4) && arbiter_refuses(gel_arrive(256, 'z'), 4));
+    CHECK(arbiter_refuses(gel_both(65535, 'z', 65535), 4));
+    CHECK(arbiter_refused(gel_buffer_arbiter_slot(&other, gel_nothing(), other_store, STORE - 1), 2));
+    CHECK(arbiter_refused(gel_buffer_arbiter_slot(&other, gel_arrive(256, 'z'), NULL, 0), 2));
+    /* The last one asked is Q, and the same after a bit that a narrower register does not have. */
+    other.regs[GEL_LAST_ASKED] = 2;
+    CHECK(arbiter_refused(gel_buffer_arbiter_slot(&other, gel_nothing(), other_store, STORE), 3));
+    CHECK(arbiter_refused(gel_buffer_arbiter_slot(&other, gel_arrive(256, 'z'), NULL, 0), 3));
+    other.regs[GEL_LAST_ASKED] = (size_t)1 << 32;
+    CHECK(arbiter_refused(gel_buffer_arbiter_slot(&other, gel_nothing(), other_store, STORE), 3));
+    CHECK(other.regs[GEL_LAST_ASKED] == (size_t)1 << 32 && other.regs[GEL_PHASE] == 0);
+    /* Queue 0 is full, with both its bytes in store and owed, and no other has a byte: its arrival does not count, and
+     * there is no request. From a fresh buffer that does not come. The counts are right then, and a step may follow. */
+    CHECK(gel_buffer_open(&other, 2, 2, 1) == 0);
+    other.stored[0] = 1;
+    other.cells[1] = other.cells[2] = 2 * 65536;
+    CHECK(arbiter_refused(gel_buffer_arbiter_slot(&other, gel_arrive(0, 'z'), other_store, STORE), 5));
+    CHECK(other.owing[0] == 2 && other.regs[GEL_LAST_ASKED] == 1 && other.regs[GEL_PHASE] == 0);
+    CHECK(arbiter_refuses(gel_arrive(0, 'z'), 5) && asks(gel_arrive(1, 'z'), 1));
+    /* A full queue that is asked for an older byte takes the arriving one. */
+    CHECK(gel_buffer_open(&other, 1, 2, 1) == 0);
+    CHECK(asks_none(gel_nothing(), nothing));
+    CHECK(same(gel_buffer_slot(&other, gel_arrive(0, 'a'), other_store, 2), nothing));
+    CHECK(same(gel_buffer_slot(&other, gel_arrive(0, 'b'), other_store, 2), nothing));
+    a = arbitrate(gel_arrive(0, 'c'));
+    CHECK(a.slot.number == 0 && a.slot.writes == 1 && a.asks == 1 && a.asked == 0);
+    CHECK(other_store[0] == 'b' && other_store[1] == 'c' && other.regs[GEL_TAIL_FILL] == 0);
 }
 
 /* ---- Runs, idle slots, words ----------------------------------------------------------------------------------- */
@@ -268,7 +390,7 @@ static void call_and_answer_words(void) {
     CHECK(gel_nothing() == 0);
     CHECK(gel_arrive(65535, 255) == 0x1ffffff && gel_ask(65535) == (uint64_t)0x1ffff << 25);
     CHECK(gel_both(1, 2, 3) == (gel_arrive(1, 2) | gel_ask(3)));
-    /* What this version does not look at: bits 42 to 63, and a queue or a value where there is no arrival or request. */
+    /* What this version does not look at: bits 42 to 63, and a queue or a value where no byte arrives or is asked. */
     CHECK(gel_buffer_open(&other, 2, 2, 4) == 0);
     CHECK(same(gel_buffer_slot(&other, ~gel_arrive(0, 0) & ~gel_ask(0), other_store, STORE), nothing));
     CHECK(other.regs[GEL_PHASE] == 1 && other.regs[GEL_TAIL_FILL] == 0);
@@ -386,6 +508,9 @@ int main(void) {
     slots_refused();
     full_queue_refilled();
     counts_mended();
+    arbiter_chooses();
+    greatest_wait();
+    arbiter_is_refused();
     runs();
     idle_slots();
     call_and_answer_words();

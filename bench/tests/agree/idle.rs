@@ -50,7 +50,7 @@ fn stretches_lose_nothing() {
             answers.resize(answers.len() + stretch.passed - 1, 0);
             answers.push(stretch.last.word());
         }
-        let proved = Lent { answers, told: Vec::new(), store, marks: buffer.marks() };
+        let proved = Lent { answers, marks: buffer.marks(), ..Lent::new(0, store) };
         assert_same(&plain, &proved, &format!("{sizes:?}, stretches"));
     }
 }

@@ -163,7 +163,7 @@ pub extern "C" fn gel_write(command: CommandNumbers, calls: &[u64], first: u8) -
 ];
 
 /// A file, what stands in it, and what may stand there as well.
-const RIGHT: [(&str, &str, &str); 11] = [
+const RIGHT: [(&str, &str, &str); 12] = [
     (HEADER, "size_t store_bytes", "size_t n"),
     (HEADER, "its own comment", "/* size_t other[3]; "),
     (HEADER, "tail[GEL_TAIL_PLACES]", "tail[20]"),
@@ -171,6 +171,7 @@ const RIGHT: [(&str, &str, &str); 11] = [
     (LIBRARY_RT, "    VERSION\n", "    crate::VERSION\n"),
     (LIBRARY_RT, "tail: &'a TailArray", "tail: &'a [u16; layout::TAIL_PLACES]"),
     (MODULE_RT, "command: CommandNumbers", "command: pairs::CommandNumbers"),
+    (MODULE_RT, "use crate::Answer;", "use crate::slots::Answer;"),
     (LIBRARY_RT, "pub const VERSION: u32 = 3;", "pub const VERSION: u32 = 3u32;"),
     (LIBRARY_RT, "regs: &'a [usize; 2]", "regs: &[usize; 2]"),
     (LIBRARY_RT, "    ensures { λ r. ⌜ Says r ⌝ }\n", "    ensures bounded { λ r. ⌜ Says r ⌝ }\n"),

@@ -35,9 +35,10 @@ pub enum Break {
     RoomSumByTail,
     RoomSumByBlocks,
     OwedSum,
+    LastAsked,
 }
 
-pub const ALL: [Break; 27] = [
+pub const ALL: [Break; 28] = [
     Break::NoQueue,
     Break::QueuesOver,
     Break::NoBlockByte,
@@ -65,7 +66,11 @@ pub const ALL: [Break; 27] = [
     Break::RoomSumByTail,
     Break::RoomSumByBlocks,
     Break::OwedSum,
+    Break::LastAsked,
 ];
+
+/// A last one asked far over any queue, which no byte can be.
+const FAR_LAST_ASKED: usize = 65_535;
 
 impl Break {
     /// The rules that are broken then. A fill over its cache leaves no place
@@ -88,6 +93,7 @@ impl Break {
             HeadMarkLow | HeadMarkHigh => &["head mark"],
             RoomSumByTail | RoomSumByBlocks => &["room sum"],
             OwedSum => &["owed sum"],
+            LastAsked => &["last asked"],
         }
     }
 
@@ -223,6 +229,7 @@ fn break_rule(random: &mut Random, which: Break, state: &mut RawState) {
                 }
             }
         }
+        Break::LastAsked => state.last_asked = random.pick(&[sizes.q, sizes.q, sizes.q, outside, FAR_LAST_ASKED]),
         _ => unreachable!("bad sizes are made elsewhere"),
     }
 }

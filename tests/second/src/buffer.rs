@@ -44,7 +44,7 @@ type Rows = Vec<VecDeque<Entry>>;
 
 #[derive(Clone)]
 pub struct Buffer {
-    sizes: Sizes,
+    pub(crate) sizes: Sizes,
     phase: usize,
     tail: Rows,
     head: Rows,
@@ -52,6 +52,8 @@ pub struct Buffer {
     rings: Vec<Ring>,
     tail_mark: usize,
     head_mark: usize,
+    /// The queue that the arbiter asked for last (request 2.2).
+    pub(crate) last_asked: usize,
     next_sequence: u64,
 }
 
@@ -70,6 +72,7 @@ impl Buffer {
             rings: vec![Ring { first: 0, count: 0 }; sizes.q],
             tail_mark: 0,
             head_mark: 0,
+            last_asked: sizes.q - 1,
             next_sequence: 0,
         })
     }
@@ -96,6 +99,7 @@ impl Buffer {
             rings: raw.rings.clone(),
             tail_mark: raw.tail_mark,
             head_mark: raw.head_mark,
+            last_asked: raw.last_asked,
             next_sequence,
         }
     }
@@ -110,10 +114,11 @@ impl Buffer {
             rings: self.rings.clone(),
             tail_mark: self.tail_mark,
             head_mark: self.head_mark,
+            last_asked: self.last_asked,
         }
     }
 
-    /// One slot. Refused: neither the state nor the store has changed.
+    /// One slot, in which the caller asks. Refused: neither the state nor the store has changed.
     pub fn slot(
         &mut self,
         expected_cells: usize,
@@ -182,13 +187,24 @@ impl Buffer {
     }
 
     /// Whether no byte of this queue may arrive: its tail bytes and blocks fill its K blocks.
-    fn is_full(&self, queue: usize) -> bool {
+    pub(crate) fn is_full(&self, queue: usize) -> bool {
         let sizes = self.sizes;
         self.tail[queue].len() + sizes.b * self.rings[queue].count == sizes.k * sizes.b
     }
 
     pub fn tail_is_full(&self) -> bool {
         fill(&self.tail) == self.sizes.tail_size()
+    }
+
+    /// Refusals 3 and 2, the same for every call.
+    pub(crate) fn refusal_of_state(&self, expected_cells: usize, store_length: usize) -> Option<u8> {
+        if !self.keeps_rules(expected_cells) {
+            return Some(3);
+        }
+        if store_length < self.sizes.store_size() {
+            return Some(2);
+        }
+        None
     }
 
     /// Refusals 3, 2 and 4 to 9, on the state as handed in.
@@ -200,11 +216,9 @@ impl Buffer {
         store_length: usize,
     ) -> Option<u8> {
         let sizes = self.sizes;
-        if !self.keeps_rules(expected_cells) {
-            return Some(3);
-        }
-        if store_length < sizes.store_size() {
-            return Some(2);
+        let of_state = self.refusal_of_state(expected_cells, store_length);
+        if of_state.is_some() {
+            return of_state;
         }
         if let Some((queue, _)) = arrival {
             if queue >= sizes.q {
@@ -249,6 +263,7 @@ impl Buffer {
                 rings: &self.rings,
                 tail_mark: self.tail_mark,
                 head_mark: self.head_mark,
+                last_asked: self.last_asked,
             },
             queues_of(&self.tail).into_iter(),
             queues_of(&self.head).into_iter(),
@@ -260,8 +275,21 @@ impl Buffer {
     /// Whether a request of this queue takes no tail byte. The answer is the
     /// same before and after step 1 of an accepted slot, which lowers both sides or neither.
     fn would_be_owed(&self, queue: usize) -> bool {
-        let owed = self.cells.iter().filter(|&&cell| cell == Cell::Owed(queue)).count();
-        self.head[queue].len() + self.sizes.b * self.rings[queue].count > owed
+        self.past_tail(queue) > self.owed_cells(queue)
+    }
+
+    /// Bytes of this queue that no cell has taken or is owed. Step 1 of an accepted slot leaves this as it is, too.
+    pub(crate) fn unrequested(&self, queue: usize) -> usize {
+        self.past_tail(queue) - self.owed_cells(queue) + self.tail[queue].len()
+    }
+
+    /// Bytes of this queue in the head and in the store.
+    fn past_tail(&self, queue: usize) -> usize {
+        self.head[queue].len() + self.sizes.b * self.rings[queue].count
+    }
+
+    fn owed_cells(&self, queue: usize) -> usize {
+        self.cells.iter().filter(|&&cell| cell == Cell::Owed(queue)).count()
     }
 
     /// Step 1.

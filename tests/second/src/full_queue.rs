@@ -63,11 +63,21 @@ fn owe(random: &mut Random, state: &mut RawState, queue: usize) {
     let all = head_bytes(state) + stored;
     let owed = if random.percent(80) { all } else { random.below(all) };
 
+    forgive(state, queue);
+    let places = (0..state.cells.len()).collect();
+    owe_at(random, state, queue, owed, places);
+}
+
+/// No cell is owed to the queue any more.
+pub(crate) fn forgive(state: &mut RawState, queue: usize) {
     for cell in state.cells.iter_mut().filter(|cell| **cell == Cell::Owed(queue)) {
         *cell = Cell::Empty;
     }
-    let mut places: Vec<usize> = (0..state.cells.len()).collect();
-    for _ in 0..owed.min(state.cells.len()) {
+}
+
+/// So many of the places become Owed cells of the queue, or all of them if they are fewer.
+pub(crate) fn owe_at(random: &mut Random, state: &mut RawState, queue: usize, owed: usize, mut places: Vec<usize>) {
+    for _ in 0..owed.min(places.len()) {
         let place = places.swap_remove(random.below(places.len()));
         state.cells[place] = Cell::Owed(queue);
     }

@@ -1,7 +1,11 @@
 //! A second program, written from the paper and the requests alone, to check the first against.
 
+pub mod arbiter;
+pub mod arbiter_cases;
+pub mod arbiter_lists;
 pub mod breaks;
 pub mod buffer;
+mod case;
 pub mod cases;
 pub mod full_queue;
 mod lines;

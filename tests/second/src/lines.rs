@@ -1,7 +1,8 @@
-//! The line format of `cases` and `lists`.
+//! The line format of `cases` and `lists`, and of the same with the arbiter.
 
 use std::fmt::Display;
 
+use crate::arbiter::Asker;
 use crate::buffer::Answer;
 use crate::raw::RawState;
 use crate::rules::Cell;
@@ -26,6 +27,7 @@ pub fn print_state(prefix: &str, state: &RawState) {
     print_list(prefix, "cells", state.cells.iter().map(cell_word));
     print_list(prefix, "rings", state.rings.iter().map(|ring| format!("{}:{}", ring.first, ring.count)));
     println!("{prefix}marks {} {}", state.tail_mark, state.head_mark);
+    println!("{prefix}last {}", state.last_asked);
 }
 
 pub fn print_store(prefix: &str, store: &[u8]) {
@@ -33,7 +35,20 @@ pub fn print_store(prefix: &str, store: &[u8]) {
 }
 
 pub fn print_call(arrival: Option<(usize, u8)>, request: Option<usize>) {
-    println!("call arrival {} request {}", or_none(arrival.as_ref().map(pair)), or_none(request));
+    println!("{}", call_line(arrival, request));
+}
+
+/// The last word tells who asked.
+pub fn print_call_of(asker: Asker, arrival: Option<(usize, u8)>, request: Option<usize>) {
+    let word = match asker {
+        Asker::Caller(_) => "caller",
+        Asker::Arbiter => "arbiter",
+    };
+    println!("{} {word}", call_line(arrival, request));
+}
+
+fn call_line(arrival: Option<(usize, u8)>, request: Option<usize>) -> String {
+    format!("call arrival {} request {}", or_none(arrival.as_ref().map(pair)), or_none(request))
 }
 
 pub fn print_answer(answer: &Answer) {

@@ -2,23 +2,35 @@
 
 use std::collections::BTreeMap;
 
+use crate::arbiter::Asker;
+use crate::arbiter_lists::Turns;
 use crate::buffer::Buffer;
-use crate::lines::{design_word, print_answer, print_call, print_sizes, print_state, print_store};
+use crate::lines::{design_word, print_answer, print_call, print_call_of, print_sizes, print_state, print_store};
 use crate::random::Random;
 use crate::raw::RawState;
 use crate::rules::Cell;
 use crate::sizes::{Design, Sizes};
 
 pub fn print_lists(seed: u64, count: usize) {
+    print_lists_of(&Kind { most_queues: 3, full_queues: 30, turns: |_, _| None }, seed, count);
+}
+
+/// What the lists of one command have in common.
+pub(crate) struct Kind {
+    pub most_queues: usize,
+    /// Chance in percent of a list whose queues are kept full.
+    pub full_queues: usize,
+    /// Draws whose slots a list has. None: all are the caller's, and no call tells whose it is.
+    pub turns: fn(&mut Random, Sizes) -> Option<Turns>,
+}
+
+pub(crate) fn print_lists_of(kind: &Kind, seed: u64, count: usize) {
     let mut random = Random::new(seed);
     let mut tally = Tally::default();
     for number in 0..count {
-        print_list(&mut random, number, &mut tally);
+        print_list(&mut random, number, kind, &mut tally);
     }
-    for (answer, count) in &tally.answers {
-        eprintln!("answer {answer}: {count}");
-    }
-    eprintln!("swaps: {}", tally.swaps);
+    tally.print();
 }
 
 /// What occurred how often, for the summary on standard error.
@@ -26,12 +38,44 @@ pub fn print_lists(seed: u64, count: usize) {
 struct Tally {
     answers: BTreeMap<u8, usize>,
     swaps: usize,
+    arbiter_answers: BTreeMap<u8, usize>,
+    arbiter_asked: usize,
+    arbiter_swaps: usize,
 }
 
-fn print_list(random: &mut Random, number: usize, tally: &mut Tally) {
+impl Tally {
+    fn add(&mut self, asker: Asker, answer: u8, request: Option<usize>, swaps: bool) {
+        let swapped = usize::from(answer == 0 && swaps);
+        *self.answers.entry(answer).or_default() += 1;
+        self.swaps += swapped;
+        if asker == Asker::Arbiter {
+            *self.arbiter_answers.entry(answer).or_default() += 1;
+            self.arbiter_asked += usize::from(request.is_some());
+            self.arbiter_swaps += swapped;
+        }
+    }
+
+    fn print(&self) {
+        for (answer, count) in &self.answers {
+            eprintln!("answer {answer}: {count}");
+        }
+        eprintln!("swaps: {}", self.swaps);
+        if self.arbiter_answers.is_empty() {
+            return;
+        }
+        for (answer, count) in &self.arbiter_answers {
+            eprintln!("arbiter, answer {answer}: {count}");
+        }
+        eprintln!("arbiter, asked: {}", self.arbiter_asked);
+        eprintln!("arbiter, swaps: {}", self.arbiter_swaps);
+    }
+}
+
+fn print_list(random: &mut Random, number: usize, kind: &Kind, tally: &mut Tally) {
     let design = if random.percent(30) { Design::Fewer } else { Design::Full };
     let least_block = if design == Design::Fewer { 2 } else { 1 };
-    let sizes = Sizes { q: random.between(1, 3), b: random.between(least_block, 4), k: random.between(1, 3) };
+    let q = random.between(1, kind.most_queues);
+    let sizes = Sizes { q, b: random.between(least_block, 4), k: random.between(1, 3) };
     let cells = design.cells(sizes);
     let store_length = match random.below(20) {
         0 => sizes.store_size() - 1,
@@ -39,25 +83,38 @@ fn print_list(random: &mut Random, number: usize, tally: &mut Tally) {
     };
     let mut store = random.bytes(store_length);
     let mut buffer = Buffer::fresh(sizes, cells).expect("these sizes are accepted");
-    let full_queues = random.percent(30);
+    let full_queues = random.percent(kind.full_queues);
     let traffic = if full_queues { Traffic::of_full_queues } else { Traffic::random }(random);
+    let turns = (kind.turns)(random, sizes);
 
     println!("list {number} design {}", design_word(design));
     print_sizes(sizes);
     print_store("", &store);
     for index in 0..random.between(5, 40) {
         let before = buffer.to_raw();
-        let (arrival, request) = traffic.call(random, index, &before);
-        let swaps = buffer.swaps(arrival, request);
-        let answer = buffer.slot(cells, arrival, request, &mut store);
+        let callers = traffic.call(random, index, &before);
+        let (arrival, asker) = match &turns {
+            None => (callers.0, Asker::Caller(callers.1)),
+            Some(turns) => turns.call(random, index, &buffer, callers),
+        };
+        let found = buffer.clone();
+        let (answer, request) = match asker {
+            Asker::Caller(request) => (buffer.slot(cells, arrival, request, &mut store), request),
+            Asker::Arbiter => {
+                let turn = buffer.arbiter_slot(cells, arrival, &mut store);
+                (turn.answer, turn.asked)
+            }
+        };
+        let swaps = found.swaps(arrival, request);
         let after = buffer.to_raw();
-        let accepted = answer.number == 0;
-        *tally.answers.entry(answer.number).or_default() += 1;
-        tally.swaps += usize::from(accepted && swaps);
+        tally.add(asker, answer.number, request, swaps);
 
         // A refused slot did not happen, so no byte joined; in a swap one went before.
-        let grown = usize::from(accepted && arrival.is_some() && !swaps);
-        print_call(arrival, request);
+        let grown = usize::from(answer.number == 0 && arrival.is_some() && !swaps);
+        match turns {
+            None => print_call(arrival, request),
+            Some(_) => print_call_of(asker, arrival, request),
+        }
         print_answer(&answer);
         println!("fills {} {} {}", before.tail.len() + grown, after.tail.len(), after.head.len());
     }
@@ -181,13 +238,13 @@ fn bytes_of(cache: &[(usize, u8)], queue: usize) -> usize {
 }
 
 /// Bytes that a queue may still take.
-fn room(state: &RawState, queue: usize) -> usize {
+pub(crate) fn room(state: &RawState, queue: usize) -> usize {
     let sizes = state.sizes;
     sizes.k * sizes.b - sizes.b * state.rings[queue].count - bytes_of(&state.tail, queue)
 }
 
 /// Bytes of a queue that no cell has taken or is owed.
-fn unrequested(state: &RawState, queue: usize) -> usize {
+pub(crate) fn unrequested(state: &RawState, queue: usize) -> usize {
     let owed = state.cells.iter().filter(|&&cell| cell == Cell::Owed(queue)).count();
     let blocks = state.sizes.b * state.rings[queue].count;
     bytes_of(&state.tail, queue) + bytes_of(&state.head, queue) + blocks - owed

@@ -1,14 +1,19 @@
 //! The second program's commands.
 //!
-//! second [slots]            runs a script from standard input
-//! second sizing R G         prints b, or 11
-//! second cases SEED COUNT   prints random cases of one slot
-//! second lists SEED COUNT   prints random lists of slots
+//! second [slots]                    runs a script from standard input
+//! second sizing R G                 prints b, or 11
+//! second cases SEED COUNT           prints random cases of one slot
+//! second lists SEED COUNT           prints random lists of slots
+//! second arbiter-cases SEED COUNT   prints random cases of one slot, in which the arbiter asks
+//! second arbiter-lists SEED COUNT   prints random lists of slots, in some of which the arbiter asks
 
 use std::io::{self, BufWriter, Read, Write};
 use std::process::ExitCode;
 
-use second::{cases, lists, program, sizing};
+use second::{arbiter_cases, arbiter_lists, cases, lists, program, sizing};
+
+const USAGE: &str = "usage: second [slots | sizing R G | COMMAND SEED COUNT]
+COMMAND: cases, lists, arbiter-cases or arbiter-lists";
 
 fn main() -> ExitCode {
     let arguments: Vec<String> = std::env::args().skip(1).collect();
@@ -30,7 +35,9 @@ fn main() -> ExitCode {
         },
         ["cases", seed, count] => generate(seed, count, cases::print_cases),
         ["lists", seed, count] => generate(seed, count, lists::print_lists),
-        _ => fail("usage: second [slots | sizing R G | cases SEED COUNT | lists SEED COUNT]"),
+        ["arbiter-cases", seed, count] => generate(seed, count, arbiter_cases::print_arbiter_cases),
+        ["arbiter-lists", seed, count] => generate(seed, count, arbiter_lists::print_arbiter_lists),
+        _ => fail(USAGE),
     }
 }
 

@@ -135,11 +135,18 @@ pub fn random_state(random: &mut Random, sizes: Sizes, cell_count: usize, lean: 
         phase: if random.percent(60) { last_phase } else { random.below(sizes.b) },
         tail_mark: random_mark(random, tail.len(), sizes.tail_size()),
         head_mark: random_mark(random, head.len(), sizes.head_size()),
+        last_asked: random_last_asked(random, sizes),
         tail,
         head,
         cells,
         rings,
     }
+}
+
+/// Often the last queue or queue 0, where the count of the arbiter wraps or has just wrapped.
+fn random_last_asked(random: &mut Random, sizes: Sizes) -> usize {
+    let any = random.below(sizes.q);
+    random.pick(&[0, sizes.q.saturating_sub(1), any, any])
 }
 
 /// A random queue that fits, the favourite more often; none if none fits.

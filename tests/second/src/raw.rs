@@ -16,6 +16,8 @@ pub struct RawState {
     pub rings: Vec<Ring>,
     pub tail_mark: usize,
     pub head_mark: usize,
+    /// The queue that the arbiter asked for last (request 2.2).
+    pub last_asked: usize,
 }
 
 impl RawState {
@@ -28,6 +30,7 @@ impl RawState {
                 rings: &self.rings,
                 tail_mark: self.tail_mark,
                 head_mark: self.head_mark,
+                last_asked: self.last_asked,
             },
             self.tail.iter().map(|&(queue, _)| queue),
             self.head.iter().map(|&(queue, _)| queue),
@@ -35,9 +38,7 @@ impl RawState {
         )
     }
 
-    /// One slot on a state that may break any rule. Refusal 3 is judged here,
-    /// on the lists, since only a state that keeps the rules can be sorted
-    /// into queues.
+    /// One slot on a state that may break any rule, in which the caller asks.
     pub fn slot(
         &mut self,
         expected_cells: usize,
@@ -45,12 +46,19 @@ impl RawState {
         request: Option<usize>,
         store: &mut [u8],
     ) -> Answer {
+        self.in_queues(expected_cells, |buffer| buffer.slot(expected_cells, arrival, request, store))
+            .unwrap_or(Answer::refused(3))
+    }
+
+    /// Refusal 3 is judged here, on the lists, since only a state that keeps
+    /// the rules can be sorted into queues: none where it breaks one.
+    pub(crate) fn in_queues<T>(&mut self, expected_cells: usize, run: impl FnOnce(&mut Buffer) -> T) -> Option<T> {
         if !self.broken_rules(expected_cells).is_empty() {
-            return Answer::refused(3);
+            return None;
         }
         let mut buffer = Buffer::from_raw(self);
-        let answer = buffer.slot(expected_cells, arrival, request, store);
+        let answer = run(&mut buffer);
         *self = buffer.to_raw();
-        answer
+        Some(answer)
     }
 }

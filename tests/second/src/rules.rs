@@ -1,4 +1,4 @@
-//! The rules of a state: what the section "The state" names, nothing else.
+//! The rules of a state: what the section "The state" names and what request 2.2 adds to it, nothing else.
 
 use crate::sizes::Sizes;
 
@@ -24,6 +24,7 @@ pub struct Fields<'a> {
     pub rings: &'a [Ring],
     pub tail_mark: usize,
     pub head_mark: usize,
+    pub last_asked: usize,
 }
 
 /// Names every rule that is broken; a state keeps the rules when the list is
@@ -100,6 +101,7 @@ pub fn broken_rules(
         }),
         "owed sum",
     );
+    require(fields.last_asked < sizes.q, "last asked");
     broken
 }
 

@@ -1,8 +1,10 @@
 //! The paper's examples C1 to C12, its listing, and what else it settles.
 
+mod arbiter;
 mod high_marks;
 mod swap;
 
+use crate::arbiter::{ArbiterAnswer, Asker};
 use crate::buffer::{Answer, Buffer};
 use crate::lists::{would_swap, Traffic};
 use crate::program::run_script;
@@ -26,6 +28,12 @@ fn fresh(q: usize, b: usize, k: usize) -> RawState {
 fn slot(state: &mut RawState, arrival: Option<(usize, u8)>, request: Option<usize>, store: &mut [u8]) -> Answer {
     let cells = Design::Full.cells(state.sizes);
     state.slot(cells, arrival, request, store)
+}
+
+/// One slot of the full design, in which the arbiter asks.
+fn arbiter_slot(state: &mut RawState, arrival: Option<(usize, u8)>, store: &mut [u8]) -> ArbiterAnswer {
+    let cells = Design::Full.cells(state.sizes);
+    state.arbiter_slot(cells, arrival, store)
 }
 
 #[test]
@@ -254,18 +262,38 @@ fn lists_deliver_what_was_asked() {
     for _ in 0..400 {
         let sizes = sizes(random.between(1, 5), random.between(1, 5), random.between(1, 3));
         let traffic = Traffic::random(&mut random);
-        check_list(&mut random, sizes, &traffic, |_, _, _| ());
+        check_list(&mut random, sizes, callers_call(&traffic), |_| ());
+    }
+}
+
+/// The arrival of a slot, and who asks in it.
+type Call = (Option<(usize, u8)>, Asker);
+
+/// An accepted slot of a list: whose it is, the state before it, its call and its delivery.
+struct Accepted<'a> {
+    asker: Asker,
+    before: &'a RawState,
+    arrival: Option<(usize, u8)>,
+    request: Option<usize>,
+    delivered: Option<(usize, u8)>,
+}
+
+/// The caller asks in every slot.
+fn callers_call(traffic: &Traffic) -> impl FnMut(&mut Random, usize, &RawState) -> Call + '_ {
+    |random, index, state| {
+        let (arrival, request) = traffic.call(random, index, state);
+        (arrival, Asker::Caller(request))
     }
 }
 
 /// A list of 400 slots: who asks is served L slots later, in the order of arrival, both caches hold at all times that
-/// the paper looks at them, and 3, 8, 9 and 10 never come. `accepted` is told each accepted slot: the state before it
-/// and its call.
+/// the paper looks at them, and 3, 8, 9 and 10 never come. Neither do 6 and 7 where the arbiter asks, and the last one
+/// asked is the one that it asked for last. `accepted` is told each accepted slot.
 fn check_list(
     random: &mut Random,
     sizes: Sizes,
-    traffic: &Traffic,
-    mut accepted: impl FnMut(&RawState, Option<(usize, u8)>, Option<usize>),
+    mut call: impl FnMut(&mut Random, usize, &RawState) -> Call,
+    mut accepted: impl FnMut(&Accepted),
 ) {
     let cells = Design::Full.cells(sizes);
     let mut state = fresh(sizes.q, sizes.b, sizes.k);
@@ -273,15 +301,29 @@ fn check_list(
     let mut arrived: Vec<Vec<u8>> = vec![Vec::new(); sizes.q];
     let mut asked = vec![0; sizes.q];
     let mut due: Vec<Option<(usize, u8)>> = vec![None; cells];
+    let mut last_asked = sizes.q - 1;
     for index in 0..400 {
         let before = state.clone();
-        let (arrival, request) = traffic.call(random, index, &before);
-        let answer = slot(&mut state, arrival, request, &mut store);
-        assert!([0, 4, 5, 6, 7].contains(&answer.number), "{answer:?}");
+        let (arrival, asker) = call(random, index, &before);
+        let (answer, request) = match asker {
+            Asker::Caller(request) => {
+                let answer = slot(&mut state, arrival, request, &mut store);
+                assert!([0, 4, 5, 6, 7].contains(&answer.number), "{answer:?}");
+                (answer, request)
+            }
+            Asker::Arbiter => {
+                let turn = arbiter_slot(&mut state, arrival, &mut store);
+                assert!([0, 4, 5].contains(&turn.answer.number), "{turn:?}");
+                last_asked = turn.asked.unwrap_or(last_asked);
+                (turn.answer, turn.asked)
+            }
+        };
+        assert_eq!(state.last_asked, last_asked, "{before:?} {arrival:?}");
         if answer.number != 0 {
+            assert_eq!(state, before);
             continue;
         }
-        accepted(&before, arrival, request);
+        accepted(&Accepted { asker, before: &before, arrival, request, delivered: answer.delivered });
         if let Some((queue, byte)) = arrival {
             arrived[queue].push(byte);
         }

@@ -2,9 +2,12 @@
 
 use std::fmt::Debug;
 
+use gelwynnar::ArbiterAnswer;
 use second::raw::RawState;
 
 use crate::image::{Counts, Places};
+use crate::seen::NEVER_THE_ARBITERS;
+use crate::words::Arrival;
 
 /// No difference, or the first one as an error.
 pub fn same(difference: Option<String>) -> Result<(), String> {
@@ -12,6 +15,21 @@ pub fn same(difference: Option<String>) -> Result<(), String> {
         Some(what) => Err(what),
         None => Ok(()),
     }
+}
+
+/// An arbiter's slot with this arrival answers as expected, and with no number that can be of a caller's request only.
+pub fn arbiter_answers(
+    arrival: Arrival,
+    found: ArbiterAnswer,
+    expected: ArbiterAnswer,
+) -> Result<(), String> {
+    if found != expected {
+        return Err(format!("arrival {arrival:?} answers {found:?}, expected {expected:?}"));
+    }
+    if NEVER_THE_ARBITERS.contains(&found.slot.number) {
+        return Err(format!("arrival {arrival:?} answers {}, which never comes", found.slot.number));
+    }
+    Ok(())
 }
 
 /// Where an array differs.
@@ -46,9 +64,9 @@ pub fn counts(found: &Counts, expected: &Counts) -> Option<String> {
 pub fn states(found: &RawState, expected: &RawState) -> Option<String> {
     let numbers = |state: &RawState| {
         let sizes = state.sizes;
-        [sizes.q, sizes.b, sizes.k, state.phase, state.tail_mark, state.head_mark]
+        [sizes.q, sizes.b, sizes.k, state.phase, state.tail_mark, state.head_mark, state.last_asked]
     };
-    array("Q, b, K, phase and marks", &numbers(found), &numbers(expected))
+    array("Q, b, K, phase, marks and last asked", &numbers(found), &numbers(expected))
         .or_else(|| array("tail bytes", &found.tail, &expected.tail))
         .or_else(|| array("head bytes", &found.head, &expected.head))
         .or_else(|| array("cells", &found.cells, &expected.cells))

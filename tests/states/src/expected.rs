@@ -1,15 +1,17 @@
 //! What is to come of a call, by the second program, slot by slot.
 
-use gelwynnar::{Answer, Stretch};
+use gelwynnar::{Answer, ArbiterAnswer, Stretch};
+use second::arbiter;
 use second::buffer::{self, Buffer, Refill};
 use second::random::Random;
 use second::raw::RawState;
 use second::sizes::{Design, Sizes};
 
+use crate::arbitrated::Turn;
 use crate::difference;
 use crate::image::Image;
 use crate::refilled::Met;
-use crate::words::{self, Call, IDLE};
+use crate::words::{self, Arrival, Call, IDLE};
 
 /// A state and a store that slots happen to.
 #[derive(Clone)]
@@ -20,6 +22,8 @@ pub struct Expected {
     store: Vec<u8>,
     /// How many slots were accepted.
     accepted: usize,
+    /// The queue that the arbiter asked last.
+    last_asked: usize,
 }
 
 impl Expected {
@@ -27,19 +31,33 @@ impl Expected {
         let sizes = state.sizes;
         let keeps = state.broken_rules(Design::Full.cells(sizes)).is_empty();
         let buffer = keeps.then(|| Buffer::from_raw(state));
-        Expected { sizes, buffer, store: store.to_vec(), accepted: 0 }
+        Expected { sizes, buffer, store: store.to_vec(), accepted: 0, last_asked: state.last_asked }
     }
 
     /// A fresh state of accepted sizes.
     pub fn fresh(sizes: Sizes, store: &[u8]) -> Expected {
         let buffer = Buffer::fresh(sizes, Design::Full.cells(sizes)).ok();
-        Expected { sizes, buffer, store: store.to_vec(), accepted: 0 }
+        Expected { sizes, buffer, store: store.to_vec(), accepted: 0, last_asked: sizes.q - 1 }
     }
 
     /// What the slot of this call meets.
     pub fn meets(&self, (arrival, request): Call) -> Met {
         let Some(buffer) = &self.buffer else { return Met::default() };
         Met { refill: buffer.refill(arrival, request), tail_full: buffer.tail_is_full() }
+    }
+
+    /// What the slot of this arrival meets, in which the arbiter chooses; none where the state breaks a rule.
+    pub fn turn(&self, arrival: Arrival) -> Option<Turn> {
+        let buffer = self.buffer.as_ref()?;
+        let chosen = buffer.choice(arrival);
+        Some(Turn {
+            queues: self.sizes.q,
+            last_asked: self.last_asked,
+            chosen,
+            waiting: buffer.choice(None),
+            full: arrival.is_some_and(|(queue, _)| buffer.refill(arrival, Some(queue)).is_some()),
+            met: self.meets((arrival, chosen)),
+        })
     }
 
     /// A call that reads and refills a full queue and swaps, where there is one.
@@ -65,6 +83,24 @@ impl Expected {
         };
         self.accepted += usize::from(answer.number == 0);
         words::answer(answer)
+    }
+
+    /// A slot in which the arbiter chooses.
+    pub fn arbiter_slot(&mut self, arrival: Arrival) -> ArbiterAnswer {
+        self.arbiter_slot_in(arrival, self.store.len())
+    }
+
+    pub fn arbiter_slot_in(&mut self, arrival: Arrival, store_bytes: usize) -> ArbiterAnswer {
+        let found = match &mut self.buffer {
+            Some(buffer) => {
+                let cells = Design::Full.cells(self.sizes);
+                buffer.arbiter_slot(cells, arrival, &mut self.store[..store_bytes])
+            }
+            None => arbiter::ArbiterAnswer::refused(3),
+        };
+        self.accepted += usize::from(found.answer.number == 0);
+        self.last_asked = found.asked.unwrap_or(self.last_asked);
+        words::arbiter_answer(found)
     }
 
     /// 3 or 2, which every slot with so many bytes of the store answers, or 0.
@@ -99,6 +135,11 @@ impl Expected {
 
     pub fn store(&self) -> &[u8] {
         &self.store
+    }
+
+    /// The second program's buffer; none where the state breaks a rule.
+    pub fn buffer(&self) -> Option<&Buffer> {
+        self.buffer.as_ref()
     }
 
     /// The state now; none where it breaks a rule.

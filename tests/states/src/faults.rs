@@ -13,7 +13,7 @@ use crate::picks::{sizes_at_the_limits, some_sizes, FAR};
 
 /// The registers as a fault's name has them, by their place.
 const REGISTERS: [&str; REGS] =
-    ["Queues", "Block", "Depth", "Phase", "TailFill", "HeadFill", "TailMark", "HeadMark"];
+    ["Queues", "Block", "Depth", "Phase", "TailFill", "HeadFill", "TailMark", "HeadMark", "LastAsked"];
 
 #[derive(Clone, Copy)]
 pub enum Fault {

@@ -1,5 +1,6 @@
 //! A buffer that the library makes, in arrays that held anything.
 
+use gelwynnar::reg;
 use second::random::Random;
 use second::sizes::Sizes;
 
@@ -8,7 +9,7 @@ use crate::guarded::Edge;
 use crate::image::{Counts, Image, Places};
 use crate::memory::Memory;
 
-/// The registers are the sizes and zeros, and every place is zero.
+/// The registers are the sizes, zeros, and the last queue as the last one asked; every place is zero.
 pub fn open(
     sizes: Sizes,
     store: Vec<u8>,
@@ -25,6 +26,7 @@ pub fn open(
     let after = memory.image()?;
     let mut fresh = Places::zeros();
     fresh.regs[..3].copy_from_slice(&[sizes.q, sizes.b, sizes.k]);
+    fresh.regs[reg::LAST_ASKED] = sizes.q - 1;
     let places = difference::places(&after.places, &fresh);
     difference::same(places.or_else(|| difference::counts(&after.counts, &Counts::zeros())))?;
     Ok(after)

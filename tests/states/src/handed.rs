@@ -1,14 +1,16 @@
 //! States to hand in, each with a call and a store, from a seeded generator: states that keep the rules and lean
-//! towards an answer, states with a full queue that the call reads and refills, states with one fault, states with a
-//! few numbers changed, and any numbers at all.
+//! towards an answer, states with a full queue that the call reads and refills, states with queues that the arbiter
+//! passes over, states with one fault, states with a few numbers changed, and any numbers at all.
 
 use gelwynnar::{reg, REGS};
 use second::full_queue::state_with_full_queue;
 use second::random::Random;
 use second::random_state::{random_state, Amount, Lean};
 use second::raw::RawState;
+use second::rules::Cell;
 use second::sizes::Design;
 
+use crate::arbitrated::Arbitrated;
 use crate::expected::Expected;
 use crate::faults::Fault;
 use crate::image::Image;
@@ -27,12 +29,13 @@ const TRIES: usize = 100;
 
 pub fn handed(random: &mut Random) -> Handed {
     match random.below(100) {
-        0..=49 => {
+        0..=39 => {
             let goal = random.pick(&[0, 0, 0, 0, 0, 0, 2, 4, 5, 6, 7, 8, 9, 10]);
             leaning(random, goal)
         }
-        50..=64 => refilled(random),
-        65..=84 => {
+        40..=53 => refilled(random),
+        54..=69 => arbitrated(random),
+        70..=84 => {
             let fault = random.pick(&Fault::all());
             faulty(random, fault)
         }
@@ -81,6 +84,10 @@ fn refilled(random: &mut Random) -> Handed {
         if random.percent(30) {
             to_ring_ends(random, &mut state);
         }
+        // For the arbiter to choose it too.
+        if random.percent(85) {
+            state.last_asked = (queue + sizes.q - 1) % sizes.q;
+        }
         let call = (Some((queue, random.byte())), Some(queue));
         let short = random.percent(2);
         let store = some_store(random, sizes, short);
@@ -90,6 +97,64 @@ fn refilled(random: &mut Random) -> Handed {
             let image = Image { store, ..Image::of_state(random, &state) };
             return Handed { image, call, fault: None };
         }
+    }
+}
+
+/// A state in which some queues have no byte to ask for, and one may be full. What is to come of an arbiter's slot
+/// (request 2.2) only guides what is picked, as above.
+fn arbitrated(random: &mut Random) -> Handed {
+    let goal = random.pick(&Arbitrated::ALL);
+    let mut tries = 0;
+    loop {
+        tries += 1;
+        let sizes = if goal.is_of_a_full_queue() { shallow_sizes(random) } else { some_sizes(random) };
+        let cells = Design::Full.cells(sizes);
+        let lean = Lean::random(random);
+        let (mut state, full) = if goal.is_of_a_full_queue() {
+            let (state, queue) = state_with_full_queue(random, sizes, cells, lean);
+            (state, Some(queue))
+        } else {
+            (random_state(random, sizes, cells, lean), None)
+        };
+        let passed_over = random.pick(&[30, 70, 100]);
+        for queue in (0..sizes.q).filter(|&queue| Some(queue) != full) {
+            if random.percent(passed_over) {
+                leave_nothing(random, &mut state, queue);
+            }
+        }
+        if random.percent(30) {
+            to_ring_ends(random, &mut state);
+        }
+        let (arrival, request) = some_call(random, sizes, 0);
+        let arrival = full.map(|queue| (queue, random.byte())).or(arrival);
+        let store = some_store(random, sizes, false);
+        let mut expected = Expected::new(&state, &store);
+        let turn = expected.turn(arrival).expect("a state that keeps the rules");
+        let number = expected.arbiter_slot(arrival).slot.number;
+        if is_large(sizes) || tries == TRIES || turn.comes_to(number).contains(&goal) {
+            let image = Image { store, ..Image::of_state(random, &state) };
+            return Handed { image, call: (arrival, request), fault: None };
+        }
+    }
+}
+
+/// Leaves a queue no byte to ask for. Most often those in the head and in the store are owed, where there are as many
+/// cells for them; else they are gone.
+fn leave_nothing(random: &mut Random, state: &mut RawState, queue: usize) {
+    let is_owed = |cell: &&mut Cell| **cell == Cell::Owed(queue);
+    state.tail.retain(|byte| byte.0 != queue);
+    state.cells.iter_mut().filter(is_owed).for_each(|cell| *cell = Cell::Empty);
+    let head_bytes = state.head.iter().filter(|byte| byte.0 == queue).count();
+    let bytes = head_bytes + state.sizes.b * state.rings[queue].count;
+    let mut free: Vec<&mut Cell> =
+        state.cells.iter_mut().filter(|cell| !matches!(cell, Cell::Owed(_))).collect();
+    if bytes <= free.len() && random.percent(70) {
+        for _ in 0..bytes {
+            *free.swap_remove(random.below(free.len())) = Cell::Owed(queue);
+        }
+    } else {
+        state.head.retain(|byte| byte.0 != queue);
+        state.rings[queue].count = 0;
     }
 }
 
@@ -145,7 +210,7 @@ fn change(random: &mut Random, image: &mut Image) {
             let register = &mut places.regs[random.below(REGS)];
             *register = register.wrapping_add(random.pick(&[1, usize::MAX]));
         }
-        1 => places.regs[random.between(reg::PHASE, reg::HEAD_MARK)] = random.below(40),
+        1 => places.regs[random.between(reg::PHASE, reg::LAST_ASKED)] = random.below(40),
         2 => {
             *random_place(random, &mut places.tail, places.regs[reg::TAIL_FILL]) =
                 random.word() as u16 & 0x1FFF
@@ -185,6 +250,7 @@ fn any_numbers(random: &mut Random) -> Handed {
             random.below(head_mark + 1),
             tail_mark,
             head_mark,
+            random.below(sizes.q),
         ];
     }
     let sizes = image.places.sizes();

@@ -70,6 +70,7 @@ impl Image {
             state.head.len(),
             state.tail_mark,
             state.head_mark,
+            state.last_asked,
         ];
         let entry = |&(queue, value): &(usize, u8)| (queue as u16) << 8 | u16::from(value);
         places.tail.iter_mut().zip(&state.tail).for_each(|(place, byte)| *place = entry(byte));
@@ -116,6 +117,7 @@ impl Places {
             rings: rings.map(|(&first, &count)| Ring { first: first.into(), count: count.into() }).collect(),
             tail_mark: self.regs[reg::TAIL_MARK],
             head_mark: self.regs[reg::HEAD_MARK],
+            last_asked: self.regs[reg::LAST_ASKED],
         }
     }
 

@@ -2,12 +2,14 @@
 //!
 //! states [SEED [COUNT]]
 //!
-//! COUNT states, 20,000 where nothing is said, each with a slot and then steps, with the same slot judged, and as the
-//! start of a run, of idle slots and of two margins; for each fifty of them a list of slots from a fresh state; and
-//! sizes. Every array lies against a page that nobody may touch. Prints how often each fault, each answer, each call
-//! and each outcome of a full queue that is read and refilled (request 2.1) came: with 20,000 states or more too seldom
-//! is a failure. The last line is 'N passed, M failed'.
+//! COUNT states, 20,000 where nothing is said, each with a slot and then steps, with a slot in which the arbiter
+//! chooses and then steps, with the same slot judged, and as the start of a run, of idle slots and of two margins; for
+//! each twenty of them a list of slots from a fresh state; and sizes. Every array lies against a page that nobody may
+//! touch. Prints how often each fault, each answer, each call, each outcome of a full queue that is read and refilled
+//! (request 2.1), each outcome of the arbiter's choice and its longest waits (request 2.2) came: with 20,000 states or
+//! more too seldom is a failure. The last line is 'N passed, M failed'.
 
+mod arbitrated;
 mod difference;
 mod expected;
 mod faults;
@@ -23,6 +25,7 @@ mod seen;
 mod signals;
 mod sizes;
 mod states;
+mod waits;
 mod words;
 
 use std::process::ExitCode;
@@ -35,7 +38,7 @@ use picks::is_large;
 use seen::Seen;
 
 /// A list for so many states.
-const STATES_TO_A_LIST: usize = 50;
+const STATES_TO_A_LIST: usize = 20;
 
 /// No more than so many failures are printed, since one fault may fail thousands of tests.
 const PRINTED: usize = 20;

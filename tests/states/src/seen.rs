@@ -1,13 +1,15 @@
-//! How often each number, each broken rule, each call and each outcome of a full queue that is read and refilled came.
-//! What came too seldom has not been tested.
+//! How often each number, each broken rule, each call, each outcome of a full queue that is read and refilled and each
+//! outcome of the arbiter's choice came. What came too seldom has not been tested.
 
 use std::collections::BTreeMap;
 use std::fmt;
 
-use gelwynnar::Answer;
+use gelwynnar::{Answer, ArbiterAnswer};
 
+use crate::arbitrated::{Arbitrated, Turn};
 use crate::faults::Fault;
 use crate::refilled::{Met, Refilled};
+use crate::waits::{Waited, MANY};
 
 /// As many states as the least counts below are meant for.
 pub const USUAL_STATES: usize = 20_000;
@@ -15,35 +17,111 @@ pub const USUAL_STATES: usize = 20_000;
 const LEAST_OF_A_NUMBER: usize = 300;
 const LEAST_OF_A_FAULT: usize = 50;
 const LEAST_OF_A_CALL: usize = 1_000;
-
-/// What a slot can answer: 1 is of making, 11 and more are of other calls. A step does not judge 3 and 2, and from a
-/// fresh state 3, 8, 9 and 10 never come.
-const SLOT_NUMBERS: [u8; 10] = [0, 2, 3, 4, 5, 6, 7, 8, 9, 10];
-const STEP_NUMBERS: [u8; 8] = [0, 4, 5, 6, 7, 8, 9, 10];
-const LIST_NUMBERS: [u8; 6] = [0, 2, 4, 5, 6, 7];
+const LEAST_OF_A_LONG_WAIT: usize = 50;
 
 /// What an accepted slot can do.
 const MOVES: [&str; 3] = ["delivers", "writes", "reads"];
 
-/// What can come of a full queue that is read and refilled. Steps seldom meet a full tail, since the slot before them
-/// has often written a block of it. From a fresh state no slot meets one, and few meet a queue with all its bytes in
+/// What must come of slots of one kind.
+struct Due {
+    kind: &'static str,
+    /// What they answer: 1 is of making, 11 and more are of other calls.
+    numbers: &'static [u8],
+    /// What comes of a full queue that is read and refilled.
+    refills: &'static [Refilled],
+    /// What comes of the arbiter's choice.
+    turns: &'static [Arbitrated],
+}
+
+const OF_SLOTS: Due =
+    Due { kind: "slot", numbers: &[0, 2, 3, 4, 5, 6, 7, 8, 9, 10], refills: &Refilled::ALL, turns: &[] };
+
+/// A step does not judge 3 and 2. Steps seldom meet a full tail, since the slot before them has often written a block
+/// of it.
+const OF_STEPS: Due = Due {
+    kind: "step",
+    numbers: &[0, 4, 5, 6, 7, 8, 9, 10],
+    refills: &[
+        Refilled::Swaps,
+        Refilled::Misses,
+        Refilled::CannotRead,
+        Refilled::WouldBeOwed,
+        Refilled::HasNoTailByte,
+    ],
+    turns: &[],
+};
+
+/// From a fresh state 3, 8, 9 and 10 never come, no slot meets a full tail, and few meet a queue with all its bytes in
 /// the store and owed.
-const SLOT_REFILLS: [Refilled; 6] = Refilled::ALL;
-const STEP_REFILLS: [Refilled; 5] =
-    [Refilled::Swaps, Refilled::Misses, Refilled::CannotRead, Refilled::WouldBeOwed, Refilled::HasNoTailByte];
-const LIST_REFILLS: [Refilled; 2] = [Refilled::Swaps, Refilled::WouldBeOwed];
+const OF_LISTS: Due = Due {
+    kind: "slot of a list",
+    numbers: &[0, 2, 4, 5, 6, 7],
+    refills: &[Refilled::Swaps, Refilled::WouldBeOwed],
+    turns: &[],
+};
+
+/// The arbiter asks for no unknown queue, and for none without a byte.
+pub const NEVER_THE_ARBITERS: [u8; 2] = [6, 7];
+
+/// So a full queue without a tail byte is asked only where the request is Owed.
+const OF_ARBITER_SLOTS: Due = Due {
+    kind: "slot of the arbiter's",
+    numbers: &[0, 2, 3, 4, 5, 8, 9, 10],
+    refills: &[
+        Refilled::Swaps,
+        Refilled::SwapsInFullTail,
+        Refilled::Misses,
+        Refilled::CannotRead,
+        Refilled::WouldBeOwed,
+    ],
+    turns: &Arbitrated::ALL,
+};
+
+const OF_ARBITER_STEPS: Due = Due {
+    kind: "step of the arbiter's",
+    numbers: &[0, 4, 5, 8, 9, 10],
+    refills: &[Refilled::Swaps, Refilled::Misses, Refilled::CannotRead, Refilled::WouldBeOwed],
+    turns: &Arbitrated::ALL,
+};
+
+const OF_ARBITER_LISTS: Due = Due {
+    kind: "slot of the arbiter's in a list",
+    numbers: &[0, 2, 4, 5],
+    refills: OF_LISTS.refills,
+    turns: &[
+        Arbitrated::AsksNone,
+        Arbitrated::AsksTheNext,
+        Arbitrated::PassesOver,
+        Arbitrated::AsksAgain,
+        Arbitrated::BeginsWith0,
+        Arbitrated::Wraps,
+        Arbitrated::AsksTheArriving,
+        Arbitrated::FullAndAsksAnother,
+    ],
+};
 
 #[derive(Clone, Copy, Debug, PartialEq, Eq, PartialOrd, Ord)]
 pub enum Call {
     Slot,
     Step,
+    ArbiterSlot,
+    ArbiterStep,
     Run,
     Idle,
     Judge,
     Margin,
 }
 
-const CALLS: [Call; 6] = [Call::Slot, Call::Step, Call::Run, Call::Idle, Call::Judge, Call::Margin];
+const CALLS: [Call; 8] = [
+    Call::Slot,
+    Call::Step,
+    Call::ArbiterSlot,
+    Call::ArbiterStep,
+    Call::Run,
+    Call::Idle,
+    Call::Judge,
+    Call::Margin,
+];
 
 /// The answers of some slots: their numbers, and what those that were accepted did.
 #[derive(Default)]
@@ -51,6 +129,7 @@ struct Answers {
     numbers: BTreeMap<u8, usize>,
     moves: BTreeMap<&'static str, usize>,
     refills: BTreeMap<Refilled, usize>,
+    turns: BTreeMap<Arbitrated, usize>,
 }
 
 impl Answers {
@@ -63,6 +142,13 @@ impl Answers {
             *self.refills.entry(refilled).or_default() += 1;
         }
     }
+
+    fn add_turn(&mut self, answer: ArbiterAnswer, turn: Option<Turn>) {
+        self.add(answer.slot, turn.map_or(Met::default(), |turn| turn.met));
+        for arbitrated in turn.map_or(Vec::new(), |turn| turn.comes_to(answer.slot.number)) {
+            *self.turns.entry(arbitrated).or_default() += 1;
+        }
+    }
 }
 
 #[derive(Default)]
@@ -72,8 +158,12 @@ pub struct Seen {
     large: usize,
     slots: Answers,
     steps: Answers,
-    /// Of lists, by every kind of call.
+    arbiter_slots: Answers,
+    arbiter_steps: Answers,
+    /// Of lists, by every kind of call in which the caller asks, and by both in which the arbiter does.
     lists: Answers,
+    arbiter_lists: Answers,
+    waited: Waited,
     /// Of both.
     calls: BTreeMap<Call, usize>,
 }
@@ -96,9 +186,34 @@ impl Seen {
         self.steps.add(answer, met);
     }
 
-    /// One slot of a list, by whatever call.
+    pub fn arbiter_slot(&mut self, answer: ArbiterAnswer, turn: Option<Turn>) {
+        self.call(Call::ArbiterSlot);
+        self.arbiter_slots.add_turn(answer, turn);
+    }
+
+    pub fn arbiter_step(&mut self, answer: ArbiterAnswer, turn: Option<Turn>) {
+        self.call(Call::ArbiterStep);
+        self.arbiter_steps.add_turn(answer, turn);
+    }
+
+    /// One slot of a list, by whatever call in which the caller asks.
     pub fn listed(&mut self, answer: Answer, met: Met) {
         self.lists.add(answer, met);
+    }
+
+    pub fn arbiter_listed(&mut self, answer: ArbiterAnswer, turn: Option<Turn>) {
+        self.arbiter_lists.add_turn(answer, turn);
+    }
+
+    /// How long the queues of one list had to wait.
+    pub fn waited(&mut self, list: Waited) {
+        let all = &mut self.waited;
+        all.asked += list.asked;
+        all.left += list.left;
+        all.asked_latest += list.asked_latest;
+        all.left_latest += list.left_latest;
+        all.asked_latest_of_many += list.asked_latest_of_many;
+        all.greatest = all.greatest.max(list.greatest);
     }
 
     pub fn call(&mut self, call: Call) {
@@ -114,12 +229,15 @@ impl Seen {
                 all.push(format!("{what} came {times} times, and should have come {least} times or more"));
             }
         };
-        let kinds: [(&str, &Answers, &[u8], &[Refilled]); 3] = [
-            ("slot", &self.slots, &SLOT_NUMBERS, &SLOT_REFILLS),
-            ("step", &self.steps, &STEP_NUMBERS, &STEP_REFILLS),
-            ("slot of a list", &self.lists, &LIST_NUMBERS, &LIST_REFILLS),
+        let kinds = [
+            (OF_SLOTS, &self.slots),
+            (OF_STEPS, &self.steps),
+            (OF_LISTS, &self.lists),
+            (OF_ARBITER_SLOTS, &self.arbiter_slots),
+            (OF_ARBITER_STEPS, &self.arbiter_steps),
+            (OF_ARBITER_LISTS, &self.arbiter_lists),
         ];
-        for (kind, answers, numbers, refills) in kinds {
+        for (Due { kind, numbers, refills, turns }, answers) in kinds {
             for number in numbers {
                 ask(
                     format!("a {kind} that answers {number}"),
@@ -133,7 +251,24 @@ impl Seen {
             for refilled in refills {
                 ask(format!("a {kind} that {refilled}"), answers.refills.get(refilled), LEAST_OF_A_NUMBER);
             }
+            for turn in turns {
+                ask(format!("a {kind} that {turn}"), answers.turns.get(turn), LEAST_OF_A_NUMBER);
+            }
         }
+        let waited = [
+            ("asked", self.waited.asked),
+            ("asked as late as can be", self.waited.asked_latest),
+            ("delivered", self.waited.left),
+            ("delivered as late as can be", self.waited.left_latest),
+        ];
+        for (what, times) in waited {
+            ask(format!("a front byte that was {what}"), Some(&times), LEAST_OF_A_NUMBER);
+        }
+        ask(
+            "a front byte of many queues that was asked as late as can be".to_string(),
+            Some(&self.waited.asked_latest_of_many),
+            LEAST_OF_A_LONG_WAIT,
+        );
         for fault in Fault::all() {
             ask(format!("the fault {fault}"), self.faults.get(&fault.to_string()), LEAST_OF_A_FAULT);
         }
@@ -152,6 +287,10 @@ impl fmt::Display for Seen {
         writeln!(out, "slots: {}", self.slots)?;
         writeln!(out, "steps: {}", self.steps)?;
         writeln!(out, "slots of lists: {}", self.lists)?;
+        writeln!(out, "arbiter's slots: {}", self.arbiter_slots)?;
+        writeln!(out, "arbiter's steps: {}", self.arbiter_steps)?;
+        writeln!(out, "arbiter's slots of lists: {}", self.arbiter_lists)?;
+        writeln!(out, "front bytes in arbiter's slots of lists: {}", self.waited)?;
         write!(out, "calls: {}", listed(&self.calls, |call| format!("{call:?}")))
     }
 }
@@ -160,7 +299,21 @@ impl fmt::Display for Answers {
     fn fmt(&self, out: &mut fmt::Formatter) -> fmt::Result {
         let numbers = listed(&self.numbers, |number| format!("number {number}"));
         let moves = listed(&self.moves, |name| name.to_string());
-        write!(out, "{numbers}, {moves}, {}", listed(&self.refills, Refilled::to_string))
+        write!(out, "{numbers}, {moves}, {}", listed(&self.refills, Refilled::to_string))?;
+        if !self.turns.is_empty() {
+            write!(out, ", {}", listed(&self.turns, Arbitrated::to_string))?;
+        }
+        Ok(())
+    }
+}
+
+impl fmt::Display for Waited {
+    fn fmt(&self, out: &mut fmt::Formatter) -> fmt::Result {
+        let Waited { asked, asked_latest, asked_latest_of_many, left, left_latest, greatest } = self;
+        write!(out, "asked: {asked}, of these after exactly Q - 1 further slots: {asked_latest}, ")?;
+        write!(out, "and of more than {MANY} queues: {asked_latest_of_many}, ")?;
+        write!(out, "left: {left}, of these after exactly Q - 1 + L: {left_latest}, ")?;
+        write!(out, "greatest wait to be asked: {greatest}")
     }
 }
 

@@ -11,7 +11,7 @@ use crate::image::Image;
 use crate::memory::Memory;
 use crate::picks::{is_large, queue_inside, queue_outside, some_call};
 use crate::seen::{self, Seen};
-use crate::words::{call_word, Call};
+use crate::words::{arbiter_word, call_word, Call};
 
 /// A state, the second program's side of it, and what its calls need.
 struct Trial<'a> {
@@ -35,6 +35,7 @@ pub fn check(
     let expected = Expected::new(&before.places.state(), &before.store);
     let mut trial = Trial { before, call: handed.call, expected, edge, memory, random, seen };
     let number = trial.slot().map_err(|what| format!("slot: {what}"))?;
+    trial.arbiter().map_err(|what| format!("arbiter's slot: {what}"))?;
     trial.judge(number).map_err(|what| format!("judge: {what}"))?;
     trial.run().map_err(|what| format!("run: {what}"))?;
     trial.idle().map_err(|what| format!("idle: {what}"))?;
@@ -61,30 +62,72 @@ impl Trial<'_> {
         Ok(answer.number)
     }
 
-    /// Steps from the state that a slot left, accepted or not, now that its counts are right.
+    /// The same arrival, where the arbiter chooses.
+    fn arbiter(&mut self) -> Result<(), String> {
+        let mut expected = self.expected.clone();
+        let (arrival, _) = self.call;
+        let turn = expected.turn(arrival);
+        let answer = expected.arbiter_slot(arrival);
+        let word = arbiter_word(self.random, arrival);
+        self.memory.put(self.before, self.edge);
+        let found = gelwynnar::arbiter_slot(self.memory.arrays.lent(), word, self.memory.store.slice_mut());
+        self.seen.arbiter_slot(answer, turn);
+        difference::arbiter_answers(arrival, found, answer)?;
+        self.agrees(&expected)?;
+        if answer.slot.number != 3 && answer.slot.number != 2 {
+            self.steps(expected).map_err(|what| format!("and then step: {what}"))?;
+        }
+        Ok(())
+    }
+
+    /// Steps from the state that a slot left, accepted or not, now that its counts are right. In some the arbiter
+    /// chooses.
     fn steps(&mut self, mut expected: Expected) -> Result<(), String> {
         let sizes = self.before.places.sizes();
         let mut before = self.memory.image()?;
         for _ in 0..if is_large(sizes) { 2 } else { 6 } {
             let swap = if self.random.percent(20) { expected.some_swap(self.random) } else { None };
             let call = swap.unwrap_or_else(|| some_call(self.random, sizes, 5));
-            let met = expected.meets(call);
-            let answer = expected.slot(call);
-            let word = call_word(self.random, call);
-            let (lent, store) = (self.memory.arrays.lent(), self.memory.store.slice_mut());
-            // Safe: the slot answered neither 3 nor 2, and since then the library alone has written the arrays.
-            let found = unsafe { gelwynnar::step(lent, word, store) };
-            self.seen.step(answer, met);
-            if found != answer {
-                return Err(format!("{call:?} answers {found:?}, expected {answer:?}"));
-            }
+            let number = if self.random.percent(50) {
+                self.step(&mut expected, call)?
+            } else {
+                self.arbiter_step(&mut expected, call)?
+            };
             let after = self.memory.image()?;
-            if answer.number != 0 {
+            if number != 0 {
                 same_image(&after, &before).map_err(|what| format!("{call:?} is refused, and {what}"))?;
             }
             before = after;
         }
         self.agrees(&expected)
+    }
+
+    /// The number that a step answers. For `steps`, which is called where the slot before it answered neither 3 nor 2.
+    fn step(&mut self, expected: &mut Expected, call: Call) -> Result<u8, String> {
+        let met = expected.meets(call);
+        let answer = expected.slot(call);
+        let word = call_word(self.random, call);
+        let (lent, store) = (self.memory.arrays.lent(), self.memory.store.slice_mut());
+        // Safe: the slot answered neither 3 nor 2, and since then the library alone has written the arrays.
+        let found = unsafe { gelwynnar::step(lent, word, store) };
+        self.seen.step(answer, met);
+        if found != answer {
+            return Err(format!("{call:?} answers {found:?}, expected {answer:?}"));
+        }
+        Ok(answer.number)
+    }
+
+    /// The same, where the arbiter chooses: of the call only its arrival counts.
+    fn arbiter_step(&mut self, expected: &mut Expected, (arrival, _): Call) -> Result<u8, String> {
+        let turn = expected.turn(arrival);
+        let answer = expected.arbiter_slot(arrival);
+        let word = arbiter_word(self.random, arrival);
+        let (lent, store) = (self.memory.arrays.lent(), self.memory.store.slice_mut());
+        // Safe: as above.
+        let found = unsafe { gelwynnar::arbiter_step(lent, word, store) };
+        self.seen.arbiter_step(answer, turn);
+        difference::arbiter_answers(arrival, found, answer)?;
+        Ok(answer.slot.number)
     }
 
     /// The slot's number, with as many bytes of store and with others, and nothing changed.

@@ -1,11 +1,14 @@
 //! Calls and answers as the header packs them.
 
-use gelwynnar::Answer;
-use second::buffer;
+use gelwynnar::{Answer, ArbiterAnswer};
 use second::random::Random;
+use second::{arbiter, buffer};
 
-/// What a slot is asked: the queue and the value that arrive, the queue asked.
-pub type Call = (Option<(usize, u8)>, Option<usize>);
+/// The queue and the value that arrive.
+pub type Arrival = Option<(usize, u8)>;
+
+/// What a slot is asked: what arrives, and the queue asked.
+pub type Call = (Arrival, Option<usize>);
 
 pub const IDLE: Call = (None, None);
 
@@ -33,6 +36,14 @@ pub fn call_word(random: &mut Random, (arrival, request): Call) -> u64 {
     word | junk & free
 }
 
+/// The word of a slot in which the arbiter chooses. The caller's own request is not looked at, so there may be any.
+pub fn arbiter_word(random: &mut Random, arrival: Arrival) -> u64 {
+    let near = random.below(4);
+    let far = random.below(1 << 16);
+    let own = random.pick(&[None, Some(near), Some(far)]);
+    call_word(random, (arrival, own))
+}
+
 fn wide(queue: usize) -> u64 {
     assert!(queue < 1 << 16, "a call has 16 bits for a queue");
     queue as u64
@@ -52,5 +63,14 @@ pub fn answer(found: buffer::Answer) -> Answer {
         written: found.written.unwrap_or(0) as u16,
         read: found.read.unwrap_or(0) as u16,
         slots_left: 0,
+    }
+}
+
+/// The same of a slot in which the arbiter chooses.
+pub fn arbiter_answer(found: arbiter::ArbiterAnswer) -> ArbiterAnswer {
+    ArbiterAnswer {
+        slot: answer(found.answer),
+        asks: found.asked.is_some().into(),
+        asked: found.asked.unwrap_or(0) as u16,
     }
 }

@@ -1,7 +1,7 @@
 //! Request 2.1: a slot that reads and refills one full queue is taken where its request would be Held and the tail
 //! already has a byte of the queue; then the request comes before the arrival.
 
-use super::{check_list, fresh, is_swap, printed, sizes, slot};
+use super::{callers_call, check_list, fresh, is_swap, printed, sizes, slot};
 use crate::buffer::{Answer, Buffer, Refill};
 use crate::full_queue::state_with_full_queue;
 use crate::lists::Traffic;
@@ -280,12 +280,12 @@ fn lists_that_swap_deliver_what_was_asked() {
         let sizes = sizes(random.between(1, 8), random.between(2, 5), random.between(1, 2));
         let traffic = Traffic::of_full_queues(&mut random);
         let swaps_before = swaps;
-        check_list(&mut random, sizes, &traffic, |before, arrival, request| {
-            if is_swap(before, arrival, request) {
-                let (queue, _) = arrival.expect("a swap has an arrival");
-                assert!(before.tail.len() < sizes.tail_size(), "{before:?}");
+        check_list(&mut random, sizes, callers_call(&traffic), |slot| {
+            if is_swap(slot.before, slot.arrival, slot.request) {
+                let (queue, _) = slot.arrival.expect("a swap has an arrival");
+                assert!(slot.before.tail.len() < sizes.tail_size(), "{:?}", slot.before);
                 swaps += 1;
-                with_blocks += usize::from(before.rings[queue].count > 0);
+                with_blocks += usize::from(slot.before.rings[queue].count > 0);
             }
         });
         lists += usize::from(swaps > swaps_before);

@@ -1,13 +1,12 @@
 -- A slot of the arbiter's of a state of which 3 and 2 are judged: refused whatever would be chosen, or in place.
 use mathlib.Core.Path.{_≡_, refl, ap, sym}
 use mathlib.Core.List.{List}
-use mathlib.Core.Option.{Option, none}
+use mathlib.Core.Option.{Option}
 use Prim.Native.Nat.{ℕ, zero, suc}
 use lib.ListN.{length}
 use Rattle.model.specs.Sizes.{paper}
 use Rattle.model.specs.State.{Byte, State}
 use Rattle.model.specs.Slot.{Answer, refuse, slot}
-use Rattle.model.specs.Lists.{taken}
 use Rattle.model.specs.Arbiter.{choice, arbiterCall, lastAfter, noting, arbiterSlot}
 use Rattle.layout.specs.Counts.{ByQueue}
 use Rattle.layout.specs.declared.Delivery.the-variants.{NoDelivery}
@@ -21,6 +20,7 @@ use Rattle.slot_checked.proofs.Judging.{judged-state}
 use Rattle.slot_checked.proofs.Clearing.{ready-counted, leaves-refused, leaves-ready, judged-lent}
 use Rattle.arbiter_in_place.specs.declared.Arbitrated.{Arbitrated}
 use Rattle.arbiter_in_place.specs.Says.{ArbiterAdvanceSays}
+use Rattle.arbiter_in_place.proofs.Composed.{taken-not}
 
 -- A refusal of the arbiter's call is the arbiter's answer.
 arbiter-refused : (n : ℕ) (x : State) (store : List ℕ) (arrival : Option Byte) → (n ≡ 0 → ⊥)
@@ -29,10 +29,6 @@ arbiter-refused : (n : ℕ) (x : State) (store : List ℕ) (arrival : Option Byt
 arbiter-refused zero x store arrival f e = absurd (f refl)
 arbiter-refused (suc n) x store arrival f e =
     ap (λ (a : Answer). noting (lastAfter (a .number) (choice x arrival) (x .lastAsked)) a) e
-
-nothing-asked : (n : ℕ) (o : Option ℕ) → (n ≡ 0 → ⊥) → none ≡ taken n o
-nothing-asked zero o f = absurd (f refl)
-nothing-asked (suc n) o f = refl
 
 module _ {regs : Regs} (m : Arrays) (store : List ℕ) {before : Regs} (read-in : before ≡ regs) {n : ℕ}
     {counts counts′ : ByQueue} (says : (n ≡ judgedNumber before m store)
@@ -57,7 +53,7 @@ module _ {regs : Regs} (m : Arrays) (store : List ℕ) {before : Regs} (read-in 
       answer-is =
           sym (arbiter-refused n (stateIn regs m) store arrival f
           (judged .refused f store (arbiterCall (stateIn regs m) arrival) refl));
-      asked-is = nothing-asked n (choice (stateIn regs m) arrival) f;
+      asked-is = taken-not n (choice (stateIn regs m) arrival) f;
       as-given = λ _. (refl, refl);
     },
     leaves-refused regs m store (here .0) (here .1) f,

@@ -25,7 +25,7 @@ use Rattle.run_in_place.specs.declared.Answered.{Answered}
 use Rattle.run_in_place.specs.Says.{advancedTo, OneSlotSays}
 use Rattle.arbiter_choice.specs.Says.{choiceNow}
 use Rattle.arbiter_choice.proofs.Paper.{choice-is}
-use Rattle.arbiter_in_place.specs.Says.{lastNoted, noted, ArbiterAdvanceSays}
+use Rattle.arbiter_in_place.specs.Says.{noted, ArbiterAdvanceSays}
 
 -- The choice by the counts of a state that is ready is the model's.
 pub chosen : {regs : Regs} {m : Arrays} {counts : ByQueue} {store : List ℕ} → Ready regs m counts store
@@ -36,7 +36,7 @@ chosen {regs} {m} r arrival =
     ∙ choice-is (stateIn regs m) arrival (standing.kept r .last-below)
 
 -- What is noted after a slot that answered this number.
-last-alike : (n : ℕ) (c : Option ℕ) (last : ℕ) → lastNoted (taken n c) last ≡ lastAfter n c last
+last-alike : (n : ℕ) (c : Option ℕ) (last : ℕ) → lastAfter 0 (taken n c) last ≡ lastAfter n c last
 last-alike zero none last = refl
 last-alike zero (some q) last = refl
 last-alike (suc n) c last = refl
@@ -47,12 +47,12 @@ noted-refused (suc n) c regs f = refl
 
 -- A state that is ready is so with another queue noted.
 ready-noted : {regs : Regs} {m : Arrays} {counts : ByQueue} {store : List ℕ} (asked : Option ℕ)
-    → lastNoted asked (regs .«last_asked») < regs .queues → Ready regs m counts store
+    → lastAfter 0 asked (regs .«last_asked») < regs .queues → Ready regs m counts store
     → Ready (noted asked regs) m counts store
 ready-noted {regs} {m} asked l r = record {
   long = r .long;
   kept = keeps-holds paper (stateIn (noted asked regs) m)
-      (keeps-noted paper (stateIn regs m) (lastNoted asked (regs .«last_asked»)) l
+      (keeps-noted paper (stateIn regs m) (lastAfter 0 asked (regs .«last_asked»)) l
       (keeps-facts paper (stateIn regs m) (r .kept)));
   tallies = record {
     tails-are = r .tallies .tails-are;
@@ -92,7 +92,7 @@ module _ {regs : Regs} {m : Arrays} {counts : ByQueue} {store : List ℕ} (r : R
         ∙ ap (λ (s : Sizes). s .Q) (slot-kept paper x store call (omega arith) (standing.kept r) .same-sizes)
 
     noted-below : (o : Option ℕ) → ((q : ℕ) → o ≡ some q → q < regs .queues)
-        → lastNoted o (regs₁ .«last_asked») < regs₁ .queues
+        → lastAfter 0 o (regs₁ .«last_asked») < regs₁ .queues
     noted-below none f = standing.kept (one .slot-is .ready) .last-below
     noted-below (some q) f = rw same-queues (f q refl)
 
@@ -114,9 +114,9 @@ module _ {regs : Regs} {m : Arrays} {counts : ByQueue} {store : List ℕ} (r : R
       record {
         answer-is =
             ap (λ (g : Regs). answerIn (advancedTo g answered) m′ store′) is
-            ∙ ap (noting (lastNoted asked (regs₁ .«last_asked»))) answers
+            ∙ ap (noting (lastAfter 0 asked (regs₁ .«last_asked»))) answers
             ∙ ap (λ (k : ℕ). noting k (slot paper x store call))
-            (ap (lastNoted asked) last-is
+            (ap (lastAfter 0 asked) last-is
             ∙ last-alike n (choice x arrival) (regs .«last_asked»)
             ∙ ap (λ (a : Answer). lastAfter (a .number) (choice x arrival) (regs .«last_asked»)) answers);
         asked-is = asks;

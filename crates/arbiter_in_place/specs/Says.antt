@@ -1,12 +1,12 @@
 -- What one slot on lent arrays promises in which the arbiter chooses, by the model's own.
 use mathlib.Core.Path.{_≡_}
 use mathlib.Core.List.{List}
-use mathlib.Core.Option.{Option, some, none}
+use mathlib.Core.Option.{Option}
 use Prim.Native.Nat.{ℕ}
 use Rattle.model.specs.Sizes.{paper}
 use Rattle.model.specs.State.{Byte}
 use Rattle.model.specs.Lists.{taken}
-use Rattle.model.specs.Arbiter.{choice, arbiterSlot}
+use Rattle.model.specs.Arbiter.{choice, lastAfter, arbiterSlot}
 use Rattle.layout.specs.Calls.{requestIn}
 use Rattle.layout.specs.declared.Regs.{Regs}
 use Rattle.layout.specs.Views.{Arrays, stateIn}
@@ -15,10 +15,6 @@ use Rattle.slot_in_place.specs.Says.{answerIn}
 use Rattle.arbiter_in_place.specs.declared.Arbitrated.{Arbitrated}
 
 -- The registers with the queue that was asked, if one was, as the last one asked.
-abbrev pub lastNoted : Option ℕ → ℕ → ℕ
-lastNoted none last = last
-lastNoted (some q) last = q
-
 abbrev pub noted : Option ℕ → Regs → Regs
 noted asked regs = record {
   queues = regs .queues;
@@ -29,7 +25,7 @@ noted asked regs = record {
   «head_fill» = regs .«head_fill»;
   «tail_mark» = regs .«tail_mark»;
   «head_mark» = regs .«head_mark»;
-  «last_asked» = lastNoted asked (regs .«last_asked»);
+  «last_asked» = lastAfter 0 asked (regs .«last_asked»);
 }
 
 -- What it hands back, as the slot in place does.

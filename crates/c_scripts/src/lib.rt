@@ -34,7 +34,7 @@ pub struct NumbersRead {
     pub number: u8,
 }
 
-// A command written: 0 and how many bytes it has; or the refusal and 0.
+// A command, or a whole script, written: 0 and how many bytes it has; or the refusal and 0.
 #[repr(C)]
 pub struct NumbersPut {
     pub length: usize,

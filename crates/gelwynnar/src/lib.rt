@@ -6,6 +6,7 @@ ghost use mathlib.Core.Path.{_≡_};
 ghost use Rattle.gelwynnar.specs.Version.{interfaceVersion};
 
 pub mod arbiter;
+pub mod capture;
 pub mod script;
 pub mod sizes;
 pub mod slots;

@@ -12,6 +12,7 @@ use Rattle.model.specs.Slot.{Answer, slot}
 use Rattle.model.specs.Calls.{idle, idles}
 use Rattle.model.specs.Lists.{Step, stepOf, run, lastState, lastStore}
 use Rattle.model.specs.Idle.{QuietStep, quietFirst, lastAnswer}
+use Rattle.model.proofs.basics.AllOf.{all-first, all-behind}
 use Rattle.model.proofs.basics.Tests.{by-zero}
 use Rattle.model.proofs.one_slot.Lists.{run-append}
 use Rattle.model.proofs.idle.QuietSlots.{PassedQuietly, idles-parts}
@@ -30,15 +31,6 @@ record Quietly (a : Answer) : Type 0 where
   no-delivery : a .delivered ≡ none
   no-write : a .written ≡ none
   no-read : a .read ≡ none
-
--- Where a property holds of a list, it holds of a first part and of what stands behind it.
-all-first : {A : Type 0} (P : A → Type 0) (ys zs : List A) → All P (ys ++ zs) → All P ys
-all-first P [] zs h = tt
-all-first P (y ∷ ys) zs h = (h .0, all-first P ys zs (h .1))
-
-all-behind : {A : Type 0} (P : A → Type 0) (ys zs : List A) → All P (ys ++ zs) → All P zs
-all-behind P [] zs h = h
-all-behind P (y ∷ ys) zs h = all-behind P ys zs (h .1)
 
 -- Where some idle slots are all quiet, so are all but the last, and so is the last.
 module _ (x : State) (store : List ℕ) (n : ℕ) (quiet : All QuietStep (run paper x store (idles n))) where

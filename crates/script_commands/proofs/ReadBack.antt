@@ -1,7 +1,7 @@
 -- What is written reads back: a number from the bytes that hold it, operands from theirs, a command from its own with
 -- whatever follows, and a script in order from its commands' bytes. Each operand takes its own width, and a code is
 -- that of one kind, so that the reader finds each where the writer put it.
-use mathlib.Core.Path.{_≡_, refl, ap, _∙_}
+use mathlib.Core.Path.{_≡_, refl, ap, sym, _∙_}
 use mathlib.Core.Bool.{Bool, true, false}
 use mathlib.Core.List.{List, [], _∷_, _++_, append-assoc}
 use mathlib.Core.Option.{Option}
@@ -68,6 +68,13 @@ reads-back first c rest h t =
       operands-length (row (c .kind) .operands) (c .operands) h,
       length-append (operandBytes (row (c .kind) .operands) (c .operands)) rest,
     )
+
+-- The bytes of two lists of commands, one behind the other.
+pub script-append : (cs ds : List Command) → scriptBytes (cs ++ ds) ≡ scriptBytes cs ++ scriptBytes ds
+script-append [] ds = refl
+script-append (c ∷ cs) ds =
+    ap (λ (bytes : List ℕ). commandBytes c ++ bytes) (script-append cs ds)
+    ∙ sym (append-assoc (commandBytes c) (scriptBytes cs) (scriptBytes ds))
 
 -- A script in order is judged good, and its commands are those that were written.
 pub script-reads-back : (first : Bool) (offset : ℕ) (cs : List Command) → InOrder first cs → All OperandsFit cs

@@ -5,17 +5,18 @@ use mathlib.Core.Path.{_≡_, refl, ap, sym, _∙_, subst}
 use mathlib.Core.Bool.{Bool, true, false, not}
 use mathlib.Core.List.{List, [], _∷_}
 use mathlib.Core.Option.{Option, some, none}
-use Prim.Native.Nat.{ℕ, zero, suc, _+_, _≤_, _<_}
+use Prim.Native.Nat.{ℕ, suc, _+_, _≤_, _<_}
 use native.Mathlib.Omega.{arith}
 use lib.Dec.{eqb, ltb}
 use lib.ListN.{length}
-use Rattle.model.specs.Basics.{choose, All, when, firstRefusal}
+use Rattle.model.specs.Basics.{choose, All, when}
 use Rattle.model.specs.Sizes.{Sizes, Design, storeBytes}
 use Rattle.model.specs.State.{Byte, State, keeps}
 use Rattle.model.specs.Slot.{Call, oldestCell, wrote, queueToRead, arrivalUnknown, arrivalFull, requestUnknown}
 use Rattle.model.specs.Slot.{nothingToTake, leavesUncovered, tailFull, headFull, refusals, refusal, Answer, slot}
 use Rattle.model.specs.Lists.{Step, stepOf, run, accepted}
 use Rattle.model.proofs.basics.Tests.{by-option, true-not-false}
+use Rattle.model.proofs.basics.FirstRefusal.{first-has}
 use Rattle.model.proofs.one_slot.Accepted.{RefusedOrAccepted, was-refused, was-accepted, outcome}
 use Rattle.script_text.proofs.Append.{refused-test}
 use Rattle.script_text.proofs.Delivered.{IfAny, one, requested, TakesSmall}
@@ -47,11 +48,6 @@ record NumberSays (call : Call) (n : ℕ) : Type 0 where
   not-idle : call .arrival ≡ none → call .request ≡ none → NoneOfIdle n → n ≡ 0
 
 -- It holds of each number of `refusals`, and so of the first.
-first-has : (P : ℕ → Type 0) (ns : List ℕ) → P 0 → All P ns → P (firstRefusal ns)
-first-has P [] h hs = h
-first-has P (zero ∷ ns) h hs = first-has P ns h (hs .1)
-first-has P (suc n ∷ ns) h hs = hs .0
-
 module _ (design : Design) (x : State) (store : List ℕ) (call : Call) where
   nothing-judged : NumberSays call 0
   nothing-judged = record { low = omega arith; not-idle = λ a r other. refl }

@@ -5,12 +5,13 @@ use mathlib.Core.List.{List, _++_}
 use mathlib.Core.Option.{some, none}
 use Prim.Native.Nat.{ℕ, _≤_}
 use native.Mathlib.Omega.{arith}
-use lib.ListN.{length, take, drop, replicate, length-append, length-take}
+use lib.ListN.{length, take, drop, replicate, length-append}
 use lib.Seq.{take-append-seam}
 use borrow.Author.Tests.{le-ltb}
 use Rattle.model.specs.Basics.{choose}
 use Rattle.model.proofs.basics.Tests.{none-not-some, some-inj, true-not-false}
 use Rattle.io.specs.Counts.{Counts}
+use Rattle.program_input.proofs.Within.{counts}
 use Rattle.script_lines.specs.Lines.{text}
 use Rattle.script_text.specs.Run.{scriptLines, storeLent, programText, outputBound}
 use Rattle.script_runner.specs.declared.Ran.{Ran}
@@ -18,9 +19,6 @@ use Rattle.script_runner.specs.declared.Ran.the-variants.{Printed, TooShort}
 use Rattle.script_runner.specs.Says.{printedIn, short, ScriptSays}
 use Rattle.slots.specs.declared.Answer.{Answer}
 use Rattle.slots.specs.Says.{AnswerSays}
-
-pub counts : (n : ℕ) (xs : List ℕ) → n ≤ length xs → Counts n xs
-counts n xs within = (within, omega (arith, length-take n xs))
 
 module _ {script store output : List ℕ} (room : outputBound (length script) ≤ length output) {r : Ran}
     {store′ output′ : List ℕ} (says : ScriptSays script store output r store′ output′) where

@@ -8,7 +8,8 @@ ghost use Rattle.script_text.specs.Run.{mostBytes, programText, outputBound};
 ghost use Rattle.slots.specs.Says.{mostOutput, IsProgramText, AnswerSays};
 use script_runner::Ran;
 
-// One byte more than a script may have: a longer input need not be read on (`program-reads-enough`).
+// One byte more than a script may have. A longer input need not be read on: a full buffer is over the length of a
+// script, so that what follows it changes nothing (`program-reads-enough`, `longer-input-prints-alike`).
 const INPUT: usize = 65537;
 
 // "lends a store of 65,536" (`storeLent`)
@@ -16,39 +17,6 @@ const STORE: usize = 65536;
 
 // What a script of any length can print (`output-enough`).
 const OUTPUT: usize = 655371;
-
-// How many bytes were read, and whether a read failed.
-struct Input {
-    length: usize,
-    failed: bool,
-}
-
-// Reads until the buffer is full or the input ends. A full buffer is over the length of a script, so that what follows
-// it changes nothing (`longer-input-prints-alike`).
-fn read_input(buffer: &mut [u8]) -> Input
-    requires { ⌜ mostBytes < length (now buffer) ⌝ }
-    ensures { λ r. ⌜ Counts (r .length) (now (buffer .exit)) ⌝ }
-{
-    let mut done: usize = 0;
-    while done < buffer.len() {
-        let got = libc::read(libc::STDIN_FILENO, &mut buffer[done..]);
-        if got < 0 {
-            return Input {
-                length: done,
-                failed: true,
-            };
-        }
-        let more = io::count(got, &buffer[done..]);
-        if more == 0 {
-            break;
-        }
-        done += more;
-    }
-    Input {
-        length: done,
-        failed: false,
-    }
-}
 
 // What the program prints for an input, at the start of the output, on a store of its own: how many bytes.
 fn print_script(script: &[u8], output: &mut [u8]) -> usize
@@ -78,7 +46,7 @@ fn answer_input(input: &mut [u8], output: &mut [u8]) -> Answer
     requires { ⌜ mostOutput ≤ length (now output) ⌝ }
     ensures { λ r. ⌜ AnswerSays (now (input .exit)) r (now (output .exit)) ⌝ }
 {
-    let found = read_input(input);
+    let found = program_input::read_all(libc::STDIN_FILENO, input);
     let read = found.length;
     if found.failed {
         return Answer {

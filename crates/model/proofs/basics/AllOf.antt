@@ -43,9 +43,19 @@ infixr 30 _also_
 pub _also_ : {A B : Type 0} → A → B → A × B
 a also b = (a, b)
 
+-- A fact of all elements of two lists, of both as one.
 pub all-append : {A : Type 0} (P : A → Type 0) (xs ys : List A) → All P xs → All P ys → All P (xs ++ ys)
 all-append P [] ys h k = k
 all-append P (x ∷ xs) ys h k = (h .0, all-append P xs ys (h .1) k)
+
+-- .. and of a first part, and of what stands behind it.
+pub all-first : {A : Type 0} (P : A → Type 0) (xs ys : List A) → All P (xs ++ ys) → All P xs
+all-first P [] ys h = tt
+all-first P (x ∷ xs) ys h = (h .0, all-first P xs ys (h .1))
+
+pub all-behind : {A : Type 0} (P : A → Type 0) (xs ys : List A) → All P (xs ++ ys) → All P ys
+all-behind P [] ys h = h
+all-behind P (x ∷ xs) ys h = all-behind P xs ys (h .1)
 
 -- A test of all queues, as a fact of all queues.
 pub all-below-facts : (n : ℕ) (test : ℕ → Bool) → allBelow n test ≡ true → (q : ℕ) → q < n → test q ≡ true

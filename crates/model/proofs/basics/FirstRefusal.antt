@@ -19,6 +19,16 @@ pub when-zero : (t : Bool) (n : ℕ) → when t (suc n) ≡ 0 → t ≡ false
 when-zero true n e = absurd (omega arith)
 when-zero false n e = refl
 
+-- What holds of 0 and of each refusal of a list holds of the first.
+pub first-has : (P : ℕ → Type 0) (ns : List ℕ) → P 0 → All P ns → P (firstRefusal ns)
+first-has P [] h hs = h
+first-has P (zero ∷ ns) h hs = first-has P ns h (hs .1)
+first-has P (suc n ∷ ns) h hs = hs .0
+
+pub when-has : (P : ℕ → Type 0) (t : Bool) (n : ℕ) → P 0 → (t ≡ true → P n) → P (when t n)
+when-has P true n h k = k refl
+when-has P false n h k = h
+
 -- A list of low numbers, and one more that is 0 unless one of them stands before it: the first is low.
 pub low-refusal : (most : ℕ) (ns : List ℕ) (n : ℕ) → All (λ (m : ℕ). m ≤ most) ns → (firstRefusal ns ≡ 0 → n ≡ 0)
     → firstRefusal (ns ++ n ∷ []) ≤ most

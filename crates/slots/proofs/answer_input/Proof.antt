@@ -9,17 +9,17 @@ use Rattle.slots.proofs.answer_input.Tie as tie
 abbrev start : tie.After-print-script-arg2 → tie.Start
 start c = c .before .before .before .before .before .before .before .before .before
 
-abbrev read-before : tie.After-print-script → tie.After-read-input
+abbrev read-before : tie.After-print-script → tie.After-read-all
 read-before c = c .before .before .before .before .before .before
 
-read-input-requires : tie.Need-read-input-requires
-read-input-requires c κs = search needs
+read-all-requires : tie.Need-read-all-requires
+read-all-requires c κs = search needs
 
 same-length : tie.Need-same-length
 same-length c = search needs
 
 returns : tie.Need-returns
-returns c = none-printed (c .before .before .before .read-input .ensures)
+returns c = none-printed (c .before .before .before .read-all .ensures)
 
 slice-reshare-prefix-print-script : tie.Need-slice-reshare-prefix-print-script
 slice-reshare-prefix-print-script c = search needs
@@ -41,7 +41,7 @@ returns-2 c =
     let printed = c .before .before in
     let prints = printed .print-script .ensures in
     record {
-      read-within = read-before printed .read-input .ensures;
+      read-within = read-before printed .read-all .ensures;
       printed-within = prints .1;
       text-is = λ _. prints .0;
     }
@@ -50,7 +50,7 @@ pub answer-input-spec : {M : Type 1} → statement M
 answer-input-spec =
     tie.close
     (tie.spec
-    read-input-requires
+    read-all-requires
     same-length
     returns
     slice-reshare-prefix-print-script

@@ -1,0 +1,2 @@
+-- The conversion's answer by its two cases.
+pub mod Converted

@@ -1,0 +1,2 @@
+-- What the conversion for C promises.
+pub mod Says

@@ -1,0 +1,3 @@
+-- What the program promises.
+pub mod Decimal
+pub mod Says

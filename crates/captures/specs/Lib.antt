@@ -1,0 +1,2 @@
+-- What the conversion of captures promises.
+pub mod Says

@@ -21,7 +21,10 @@
  *    6  the request's queue is Q or more              13  a command's operands are cut short
  *    7  the request's queue has no byte left to ask   14  the first command is not sizes, or sizes come again
  *                                                     15  no command where one is due, or bytes after the end
- *                                                     16  a command does not fit the output
+ *                                                     16  a command, or a capture's script, does not fit the output
+ *                                                     17  no header of a capture, or another than is read here
+ *                                                     18  a record cut short, or of over 9,016 captured bytes
+ *                                                     19  fewer than 8 queues for a capture
  * 5 does not come to a slot that asks for the same queue and takes an older byte of it from the tail cache, which makes
  * room for the arrival. Where the byte that it asks for is in slow store or in the head cache, or would be the arriving
  * one, 5 comes.
@@ -289,7 +292,7 @@ typedef struct gel_reading {
     uint8_t number;
 } gel_reading;
 
-/* A command written: 0 and how many bytes it has; or the refusal and 0. */
+/* A command or a whole script written: 0 and how many bytes it has; or the refusal and 0. */
 typedef struct gel_writing {
     size_t length;
     uint8_t number;
@@ -313,6 +316,18 @@ size_t gel_script_output(size_t script_bytes);
  * is shorter than gel_script_output of the script's bytes. */
 size_t gel_script_run(const uint8_t *script, size_t script_bytes, uint8_t *store, size_t store_bytes, uint8_t *output,
                       size_t output_bytes);
+
+/* A capture as a script of Q, b and K at the front of the output: the sizes, an arrival for each captured byte, the
+ * end. A capture is the bytes of a classic pcap file in its little-endian form (it begins D4 C3 B2 A1), version 2.4,
+ * link type 1, which is Ethernet. A frame's bytes go to the queue of its 802.1Q priority, which is the top three bits
+ * of its byte 14 (counted from 0), where its bytes 12 and 13 are 81 00 and 15 bytes or more were captured, and else to
+ * queue 0. n captured bytes make a script of 5 + 3n, and an output of three times the capture's bytes always has room.
+ * The script reads well, and no slot of it answers 4. gel_script_run takes scripts of at most 65,536 bytes, which is
+ * 21,843 captured bytes.
+ * On a refusal the output is as it came: 1, 19, 17, 18, 16, tested in this order, so that with an output of no bytes 16
+ * says that all else is good. Of a longer output the bytes behind the script stay. */
+gel_writing gel_capture_to_script(size_t queues, size_t block, size_t depth, const uint8_t *capture,
+                                  size_t capture_bytes, uint8_t *output, size_t output_bytes);
 
 #ifdef __cplusplus
 }

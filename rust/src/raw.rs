@@ -34,6 +34,16 @@ extern "C" {
         output: *mut u8,
         output_bytes: usize,
     ) -> usize;
+
+    pub fn gel_capture_to_script(
+        queues: usize,
+        block: usize,
+        depth: usize,
+        capture: *const u8,
+        capture_bytes: usize,
+        output: *mut u8,
+        output_bytes: usize,
+    ) -> Writing;
 }
 
 /// Declares functions that write the nine arrays of a buffer, each by what comes before them; what comes after; and

@@ -1,4 +1,4 @@
-//! Scripts: judged, read and written command by command, and run.
+//! Scripts: judged, read and written command by command, run, and made of captures.
 
 use crate::raw;
 
@@ -31,6 +31,16 @@ pub(crate) struct Writing {
     number: u8,
 }
 
+impl Writing {
+    fn told(self) -> Result<usize, u8> {
+        if self.number == 0 {
+            return Ok(self.length);
+        }
+        assert!(self.length == 0, "a refusal tells of bytes");
+        Err(self.number)
+    }
+}
+
 /// The number of a script's first fault and the offset of its place, or none.
 pub fn judge(script: &[u8]) -> Option<(u8, usize)> {
     // Safe: each pointer goes with the length of its own slice; the library stays within and keeps none. So below.
@@ -52,13 +62,7 @@ pub fn read(rest: &[u8], first: bool) -> Result<(Numbers, usize), u8> {
 
 /// Writes a command at the front of the output; how many bytes it has, or the refusal's number.
 pub fn write(command: Numbers, output: &mut [u8]) -> Result<usize, u8> {
-    let Writing { length, number } =
-        unsafe { raw::gel_script_write(command, output.as_mut_ptr(), output.len()) };
-    if number == 0 {
-        return Ok(length);
-    }
-    assert!(length == 0, "a refusal tells of bytes");
-    Err(number)
+    unsafe { raw::gel_script_write(command, output.as_mut_ptr(), output.len()) }.told()
 }
 
 /// How many bytes of output `run` asks for a script of so many bytes.
@@ -72,4 +76,18 @@ pub fn run(script: &[u8], store: &mut [u8], output: &mut [u8]) -> Option<usize> 
     let (read, kept, printed) = (script.as_ptr(), store.as_mut_ptr(), output.as_mut_ptr());
     let bytes = unsafe { raw::gel_script_run(read, script.len(), kept, store.len(), printed, output.len()) };
     (bytes != 0).then_some(bytes)
+}
+
+/// Writes the script of a capture at the front of the output; how many bytes it has, or 1, 19, 17, 18 or 16. Three
+/// times the capture's bytes always have room.
+pub fn from_capture(
+    queues: usize,
+    block: usize,
+    depth: usize,
+    capture: &[u8],
+    output: &mut [u8],
+) -> Result<usize, u8> {
+    let (read, written) = (capture.as_ptr(), output.as_mut_ptr());
+    unsafe { raw::gel_capture_to_script(queues, block, depth, read, capture.len(), written, output.len()) }
+        .told()
 }

@@ -501,6 +501,101 @@ static void whole_scripts(void) {
     CHECK(printed == 7 && memcmp(output, "S 15 0\n", printed) == 0);
 }
 
+/* ---- Captures -------------------------------------------------------------------------------------------------- */
+
+static const uint8_t capture[] = {
+    /* the header */
+    0xd4, 0xc3, 0xb2, 0xa1, 2, 0, 4, 0, 0, 0, 0, 0, 0, 0, 0, 0, 0xff, 0xff, 0, 0, 1, 0, 0, 0,
+    /* a frame of 16 bytes with a tag of priority 5 */
+    1, 0, 0, 0, 2, 0, 0, 0, 16, 0, 0, 0, 16, 0, 0, 0,
+    'a', 'b', 'c', 'd', 'e', 'f', 'g', 'h', 'i', 'j', 'k', 'l', 0x81, 0x00, 0xbf, 'z',
+    /* a frame without a tag, of which 2 bytes of 60 were captured */
+    3, 0, 0, 0, 4, 0, 0, 0, 2, 0, 0, 0, 60, 0, 0, 0,
+    'x', 'y'};
+
+/* Its script with Q = 8, b = 2, K = 4. */
+static const uint8_t capture_script[] = {
+    16, 8, 2, 4,
+    1, 5, 'a', 1, 5, 'b', 1, 5, 'c', 1, 5, 'd', 1, 5, 'e', 1, 5, 'f', 1, 5, 'g', 1, 5, 'h',
+    1, 5, 'i', 1, 5, 'j', 1, 5, 'k', 1, 5, 'l', 1, 5, 0x81, 1, 5, 0x00, 1, 5, 0xbf, 1, 5, 'z',
+    1, 0, 'x', 1, 0, 'y',
+    5};
+
+/* Queue 5 takes K x b = 8 bytes, and the 8 after them are refused. */
+static const char capture_lines[] = "R 8 5\nR 8 5\nR 8 5\nR 8 5\nR 8 5\nR 8 5\nR 8 5\nR 8 5\nE 10\n";
+
+enum { CAPTURE = sizeof capture, CAPTURE_SCRIPT = sizeof capture_script, CAPTURE_STORE = 8 * 4 * 2 };
+
+/* From a place on an output has question marks alone. */
+static int stays(const uint8_t *output, size_t from, size_t bytes) {
+    while (from < bytes && output[from] == '?') {
+        from++;
+    }
+    return from == bytes;
+}
+
+/* With K = 4 it is refused so, and the output is as it came. */
+static int capture_refused(size_t queues, size_t block, const uint8_t *bytes, size_t count, size_t room,
+                           uint8_t number) {
+    uint8_t output[2 * CAPTURE_SCRIPT];
+    gel_writing w;
+    memset(output, '?', sizeof output);
+    w = gel_capture_to_script(queues, block, 4, bytes, count, output, room);
+    return w.number == number && w.length == 0 && stays(output, 0, sizeof output);
+}
+
+/* The same where one byte of the capture is another. */
+static int capture_with_refused(size_t place, uint8_t byte, uint8_t number) {
+    uint8_t bytes[CAPTURE];
+    memcpy(bytes, capture, CAPTURE);
+    bytes[place] = byte;
+    return capture_refused(8, 2, bytes, CAPTURE, CAPTURE_SCRIPT, number);
+}
+
+static void captures(void) {
+    static uint8_t script[2 * CAPTURE_SCRIPT], output[1024];
+    uint8_t store[CAPTURE_STORE];
+    size_t printed;
+    gel_writing w;
+    /* Just as much room as it needs, and more: behind the script the output stays. */
+    memset(script, '?', sizeof script);
+    w = gel_capture_to_script(8, 2, 4, capture, CAPTURE, script, CAPTURE_SCRIPT);
+    CHECK(w.number == 0 && w.length == CAPTURE_SCRIPT && memcmp(script, capture_script, CAPTURE_SCRIPT) == 0);
+    CHECK(stays(script, CAPTURE_SCRIPT, sizeof script));
+    memset(script, '?', sizeof script);
+    w = gel_capture_to_script(8, 2, 4, capture, CAPTURE, script, sizeof script);
+    CHECK(w.number == 0 && w.length == CAPTURE_SCRIPT && memcmp(script, capture_script, CAPTURE_SCRIPT) == 0);
+    CHECK(stays(script, CAPTURE_SCRIPT, sizeof script));
+    /* What was written runs. */
+    CHECK(fault_is(gel_script_judge(script, w.length), 0, 0));
+    CHECK(gel_memory_sizes(8, 2, 4).store == CAPTURE_STORE && gel_script_output(w.length) <= sizeof output);
+    memset(store, 0, sizeof store);
+    printed = gel_script_run(script, w.length, store, sizeof store, output, gel_script_output(w.length));
+    CHECK(printed == strlen(capture_lines) && memcmp(output, capture_lines, printed) == 0);
+    /* Refused, each alone: sizes, queues, the header, the records, the room. */
+    CHECK(capture_refused(65, 2, capture, CAPTURE, CAPTURE_SCRIPT, 1));
+    CHECK(capture_refused(8 + 256, 2, capture, CAPTURE, CAPTURE_SCRIPT, 1));
+    CHECK(capture_refused(SIZE_MAX, SIZE_MAX, capture, CAPTURE, CAPTURE_SCRIPT, 1));
+    CHECK(capture_refused(7, 2, capture, CAPTURE, CAPTURE_SCRIPT, 19));
+    CHECK(capture_refused(8, 2, capture, 23, CAPTURE_SCRIPT, 17));
+    CHECK(capture_with_refused(0, 0xa1, 17) && capture_with_refused(6, 5, 17) && capture_with_refused(20, 101, 17));
+    CHECK(capture_refused(8, 2, capture, CAPTURE - 1, CAPTURE_SCRIPT, 18));
+    CHECK(capture_refused(8, 2, capture, 25, CAPTURE_SCRIPT, 18) && capture_with_refused(24 + 11, 1, 18));
+    CHECK(capture_refused(8, 2, capture, CAPTURE, CAPTURE_SCRIPT - 1, 16));
+    CHECK(capture_refused(8, 2, capture, CAPTURE, 0, 16));
+    /* All at once, in their order; and no bytes at all. */
+    CHECK(capture_refused(7, 0, NULL, 0, 0, 1) && capture_refused(7, 2, NULL, 0, 0, 19));
+    CHECK(capture_refused(8, 2, NULL, 0, 0, 17) && capture_refused(8, 2, capture, CAPTURE - 1, 0, 18));
+    CHECK(capture_refused(8, 2, NULL, 0, CAPTURE_SCRIPT, 17));
+    w = gel_capture_to_script(8, 2, 4, capture, CAPTURE, NULL, 0);
+    CHECK(w.number == 16 && w.length == 0);
+    w = gel_capture_to_script(8, 2, 4, NULL, 0, NULL, 0);
+    CHECK(w.number == 17 && w.length == 0);
+    /* The header alone is the sizes and the end. */
+    w = gel_capture_to_script(8, 2, 4, capture, 24, script, 5);
+    CHECK(w.number == 0 && w.length == 5 && memcmp(script, "\x10\x08\x02\x04\x05", 5) == 0);
+}
+
 int main(void) {
     CHECK(gel_version() == GEL_VERSION);
     nine_slots();
@@ -517,6 +612,7 @@ int main(void) {
     sizes();
     commands_one_by_one();
     whole_scripts();
+    captures();
     printf("%d passed, %d failed\n", passed, failed);
     return failed == 0 ? 0 : 1;
 }

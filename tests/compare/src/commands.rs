@@ -20,7 +20,7 @@ pub fn compare(script: &[u8]) -> Result<(), String> {
 }
 
 /// The reader has the commands of a good script one after the other, and the writer their bytes.
-fn reads_back(script: &[u8], commands: &[Command]) -> Result<(), String> {
+pub fn reads_back(script: &[u8], commands: &[Command]) -> Result<(), String> {
     let mut offset = 0;
     for &command in commands {
         let (found, length) = library::read(&script[offset..], offset == 0)

@@ -2,6 +2,7 @@
 //!
 //! compare [SEED [COUNT [PROGRAM]]]
 //! compare program PROGRAM
+//! compare captures [SEED [COUNT]]
 //! compare speed
 //!
 //! Each script is judged, read command by command, written back and run by both, in just as much output as is asked for
@@ -9,8 +10,11 @@
 //! those at the edges of the format and the worked cases, also go through it. Numbers that are no command go to the
 //! writer. Prints how often each line and each refusal occurred, and how many slots swapped; a line or a refusal that
 //! never occurred is a failure, and so are too few swaps in 4,000 scripts or more. `compare program` tests the program
-//! alone, on inputs that come in parts and on inputs and outputs that fail. The last line is 'N passed, M failed'.
+//! alone, on inputs that come in parts and on inputs and outputs that fail. `compare captures` has both make scripts of
+//! the captures in tests/captures and of COUNT random ones; it prints how often each answer came, and one that came too
+//! seldom in 4,000 captures or more is a failure. The last line is 'N passed, M failed'.
 
+mod captures;
 mod commands;
 mod program;
 mod scripts;
@@ -39,6 +43,10 @@ fn main() -> ExitCode {
         Some(word) => word.parse().expect("SEED and COUNT are whole numbers"),
         None => usual,
     };
+    if arguments.first().is_some_and(|word| word == "captures") {
+        let (tests, failed) = captures::compare(number(1, 1), number(2, captures::USUAL_CASES));
+        return close(tests, failed);
+    }
     let (seed, count) = (number(0, 1), number(1, seen::USUAL_SCRIPTS));
     let program = arguments.get(2).map(String::as_str);
 
@@ -79,6 +87,11 @@ fn main() -> ExitCode {
         failed += 1;
     }
     let tests = all.len() + scripts::WORKED.len() + numbers.len();
+    close(tests, failed)
+}
+
+/// The last line, and how the program ends.
+fn close(tests: usize, failed: usize) -> ExitCode {
     println!("{} passed, {failed} failed", tests - failed.min(tests));
     if failed == 0 {
         ExitCode::SUCCESS
@@ -112,10 +125,5 @@ fn test_program(path: &str) -> ExitCode {
             }
         }
     }
-    println!("{} passed, {failed} failed", tests.len() - failed);
-    if failed == 0 {
-        ExitCode::SUCCESS
-    } else {
-        ExitCode::FAILURE
-    }
+    close(tests.len(), failed)
 }

@@ -1,6 +1,7 @@
 //! The paper's examples C1 to C12, its listing, and what else it settles.
 
 mod arbiter;
+mod captures;
 mod high_marks;
 mod swap;
 

@@ -1,9 +1,10 @@
 -- `record_good` meets its contract: its three tests in turn.
 use mathlib.Core.Path.{ap, subst, _∙_}
-use Prim.Native.Nat.{ℕ, _+_, _≤_, _<_}
+use Prim.Native.Nat.{ℕ, _+_, _≤_}
 use lib.Dec.{leb}
 use lib.ListN.{length}
 use Rattle.captures.proofs.Counted.{no-head, too-long, all-there}
+use native.Mathlib.Omega.{arith}
 use borrow.Author.Needs.{needs}
 use Rattle.captures.proofs.reading.record_good.Statement.{statement}
 use Rattle.captures.proofs.reading.record_good.Tie as tie
@@ -17,7 +18,7 @@ captured-in-requires c κs = search needs
 returns-2 : tie.Need-returns-2
 returns-2 c =
     too-long (c .before .before .before .before .args .rest .now)
-    (subst (λ (n : ℕ). 9016 < n) (c .before .captured-in .ensures) (c .if2 .taken))
+    (omega (arith, c .before .captured-in .ensures, c .if2 .taken))
 
 add-result : tie.Need-add-result
 add-result c = search needs

@@ -1,17 +1,24 @@
--- The paper's numbers at the ends of their ranges, computed: its limits, its sizes and its sizing rule; and the order
--- of its refusals. The rows are of the kinds of the table of examples, which has C1 to C12.
+-- The paper's numbers at the ends of their ranges, computed: its limits, its sizes and its sizing rule; that the rule
+-- by the formula of request 2.4 is the rule by document 01's table; and the order of the refusals. The rows are of the
+-- kinds of the table of examples, which has C1 to C12.
 use mathlib.Core.Path.{_≡_, refl}
-use mathlib.Core.Bool.{true}
-use mathlib.Core.List.{[], _∷_, _++_}
-use lib.Dec.{eqb}
-use lib.ListN.{replicate}
-use Rattle.model.specs.Basics.{allTrue, allOf}
-use Rattle.model.specs.Sizes.{sizes, paper}
+use mathlib.Core.Bool.{true, not}
+use mathlib.Core.List.{List, [], _∷_, _++_}
+use mathlib.Core.Option.{Option, some, none}
+use Prim.Native.Nat.{ℕ, _+_, _*_, _/_, _<_}
+use native.Mathlib.Omega.{arith}
+use lib.Dec.{eqb, leb}
+use lib.ListN.{length, getD, replicate}
+use borrow.Author.Tests.{eqb-true, leb-true}
+use Rattle.model.specs.Basics.{choose, between, allTrue, allOf, when}
+use Rattle.model.specs.Sizes.{sizes, paper, cycleTime, sizingNumber, sizedBlock}
 use Rattle.model.specs.State.{byte, empty, owed, fresh}
 use Rattle.model.specs.Slot.{refusal}
 use Rattle.model.specs.Calls.{arrival, request, both, idle}
 use Rattle.model.specs.Examples.{refused, reads, _delivering_, _⇒_, made_phase_tail_head_cells_blocks_}
 use Rattle.model.specs.Examples.{slots, holds, sizesTaken, sizesRefused, sizesAre, blockIs, noBlock}
+use Rattle.model.proofs.basics.Tests.{by-test}
+use Rattle.model.proofs.basics.AllOf.{all-below-facts}
 
 -- The least and the greatest Q, b and K, and one beyond. Q(b - 1) is 2,016 in the last sizes taken and 2,020, the next
 -- that the other limits allow, in the last refused.
@@ -42,6 +49,41 @@ pub sizing-is : allOf holds (
     noBlock 101 0 11 ∷
     noBlock 1 16 11 ∷ []) ≡ true
 sizing-is = refl
+
+-- Request 2.4, "nothing a caller can see changes". Document 01: "The grades are a table of sixteen cycle times, 5 ns to
+-- 80 ns in steps of 5, grade 0 first."
+abbrev cycleTable : List ℕ
+cycleTable = 5 ∷ 10 ∷ 15 ∷ 20 ∷ 25 ∷ 30 ∷ 35 ∷ 40 ∷ 45 ∷ 50 ∷ 55 ∷ 60 ∷ 65 ∷ 70 ∷ 75 ∷ 80 ∷ []
+
+pub sixteen-grades : length cycleTable ≡ 16
+sixteen-grades = refl
+
+pub table-as-before : (g : ℕ) → g < 16 → getD cycleTable g 0 ≡ cycleTime g
+table-as-before g l =
+    eqb-true (getD cycleTable g 0) (cycleTime g)
+    (all-below-facts 16 (λ n. eqb (getD cycleTable n 0) (cycleTime n)) refl g l)
+
+-- The sizing rule by the table. Its limits are written out, so that it stays the rule as it was.
+abbrev blockByTable : ℕ → ℕ → ℕ
+blockByTable R g = (R * getD cycleTable g 0 + 3) / 4
+
+abbrev numberByTable : ℕ → ℕ → ℕ
+numberByTable R g = when (not (allTrue (between 1 R 100 ∷ leb g 15 ∷ leb (blockByTable R g) 128 ∷ []))) 11
+
+abbrev sizedByTable : ℕ → ℕ → Option ℕ
+sizedByTable R g = choose (eqb (numberByTable R g) 0) (some (blockByTable R g)) none
+
+-- Of every rate and grade, refused ones too, the formula gives the number and the block that the table gave. Past grade
+-- 15 the two cycle times differ, and the grade's limit refuses both.
+pub number-as-before : (R g : ℕ) → sizingNumber R g ≡ numberByTable R g
+number-as-before R g =
+    by-test (leb g 15) (λ t. rw (table-as-before g (omega (arith, leb-true g 15 t)))) (λ t. rw t)
+
+pub block-as-before : (R g : ℕ) → sizedBlock R g ≡ sizedByTable R g
+block-as-before R g =
+    by-test (leb g 15)
+    (λ t. rw (table-as-before g (omega (arith, leb-true g 15 t))))
+    (λ t. by-test (between 1 R 100) (λ u. rw (u, t)) (λ u. rw u))
 
 -- "3 is judged before 2 .. then the rest by number": slots that have cause for two refusals, and answer the first.
 -- 3 and 2: phase 2 with b 2, and no store. 2 and 4: no store, and an unknown queue.

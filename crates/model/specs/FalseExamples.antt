@@ -33,9 +33,10 @@ falseExamples =
     sizesAre 4 3 8 11 17 ∷
     sizesAre 4 3 9 10 17 ∷
     sizesAre 4 3 9 11 16 ∷
-    -- Another block; one over 128; another number; a block where none is said to be.
+    -- Another block; one over 128; one of grade 16; another number; a block where none is said to be.
     blockIs 10 9 124 ∷
     blockIs 52 1 130 ∷
+    blockIs 4 16 85 ∷
     noBlock 52 1 12 ∷
     noBlock 51 1 0 ∷
     -- Taken for refused, refused for taken, another number.

@@ -7,7 +7,7 @@ use Rattle.model.specs.Sizes.{sizes, paper}
 use Rattle.model.specs.State.{byte, empty, owed, State, fresh, withTailMark, withHeadMark, withLastAsked}
 use Rattle.model.specs.Calls.{arrival, request, both, idle}
 use Rattle.model.specs.Examples.{_⇒_, arbiter_then_asks_last_, taken, writes, reads, takenHeld, refused, misses}
-use Rattle.model.specs.Examples.{_delivering_, _fills_and_marks_and_, Example, slots, chooses}
+use Rattle.model.specs.Examples.{_delivering_, _fills_and_marks_and_, Example, blockIs, noBlock, slots, chooses}
 use Rattle.model.specs.Examples.{made_phase_tail_head_cells_blocks_}
 
 -- Q 1, b 2, K 2: one tail byte, and so a tail mark of 1.
@@ -102,6 +102,25 @@ requestExamples =
     slots paper (made (sizes 1 2 1) phase 0 tail (byte 0 65 ∷ byte 0 66 ∷ []) head [] cells (replicate 2 empty)
     blocks (0 ∷ []))
     ((arbiter some (byte 0 67) then takenHeld 0 65 asks some 0 last 0) ∷ []) ∷
+    -- 2.4, "work the cycle time out as 5 × (g + 1)". At 4 Gb/s a block has as many bytes as a cycle has ns, so a caller
+    -- sees document 01's sixteen, "5 ns to 80 ns in steps of 5, grade 0 first"; there is no grade 16.
+    blockIs 4 0 5 ∷
+    blockIs 4 1 10 ∷
+    blockIs 4 2 15 ∷
+    blockIs 4 3 20 ∷
+    blockIs 4 4 25 ∷
+    blockIs 4 5 30 ∷
+    blockIs 4 6 35 ∷
+    blockIs 4 7 40 ∷
+    blockIs 4 8 45 ∷
+    blockIs 4 9 50 ∷
+    blockIs 4 10 55 ∷
+    blockIs 4 11 60 ∷
+    blockIs 4 12 65 ∷
+    blockIs 4 13 70 ∷
+    blockIs 4 14 75 ∷
+    blockIs 4 15 80 ∷
+    noBlock 4 16 11 ∷
     -- 2.8, "the tail is looked at just after the arrival joins it": before the request takes the byte, and before it is
     -- written with its block. What was reached stays.
     slots paper (fresh paper (sizes 1 2 2))

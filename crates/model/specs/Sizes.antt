@@ -4,7 +4,6 @@ use mathlib.Core.List.{List, [], _∷_}
 use mathlib.Core.Option.{Option, some, none}
 use Prim.Native.Nat.{ℕ, _+_, _-_, _*_, _/_}
 use lib.Dec.{eqb, leb}
-use lib.ListN.{getD}
 use Rattle.model.specs.Basics.{choose, between, allTrue, when}
 
 -- "Q queues .. b bytes to a block .. K blocks of slow store to a queue": the letters are the paper's.
@@ -85,12 +84,10 @@ paper = full paperLimits
 abbrev pub oneFewer : Limits → Design
 oneFewer limits = record { limits = limits; cellCount = span }
 
--- "The grades are a table of sixteen cycle times, 5 ns to 80 ns in steps of 5, grade 0 first."
-abbrev pub cycleTimes : List ℕ
-cycleTimes = 5 ∷ 10 ∷ 15 ∷ 20 ∷ 25 ∷ 30 ∷ 35 ∷ 40 ∷ 45 ∷ 50 ∷ 55 ∷ 60 ∷ 65 ∷ 70 ∷ 75 ∷ 80 ∷ []
-
+-- "Work the cycle time out as 5 × (g + 1)" (request 2.4). Up to grade 15, the last that the sizing rule takes, it is
+-- document 01's table, "5 ns to 80 ns in steps of 5, grade 0 first" (`table-as-before`, proofs/Numbers).
 abbrev pub cycleTime : ℕ → ℕ
-cycleTime g = getD cycleTimes g 0
+cycleTime g = 5 * (g + 1)
 
 -- "At R Gb/s (1 to 100) and memory grade g (0 to 15)": the limits of the sizing rule.
 abbrev pub mostRate : ℕ

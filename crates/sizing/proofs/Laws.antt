@@ -10,7 +10,7 @@ use borrow.Author.Tests.{leb-true, le-leb}
 use Rattle.model.specs.Basics.{between, allTrue}
 use Rattle.model.specs.Sizes.{sizes, paperLimits, accepts, cycleTime, blockFor}
 use Rattle.model.proofs.basics.Tests.{by-test, between-facts, between-holds, and-both}
-use Rattle.model.proofs.basics.AllOf.{all-true-at, all-below-facts}
+use Rattle.model.proofs.basics.AllOf.{all-true-at}
 use Rattle.model.proofs.basics.Limits.{Within, within-limits}
 use Rattle.sizing.specs.declared.Sizing.the-variants.{Block, NoBlock}
 use Rattle.sizing.specs.declared.Derived.the-variants.{Needs, NoSizes}
@@ -64,10 +64,10 @@ a-block rate grade b low high last regs e = record { number-is = rw yes-is; bloc
         (and-both _ _ (le-leb grade 15 last)
         (and-both _ _ (le-leb (blockFor rate grade) 128 (omega (arith, e))) refl))
 
--- A cycle time is at most 80 ns, so the rule's product is small.
+-- Up to grade 15 a cycle time is at most 80 ns, so the rule's product is small.
 pub product-small : (rate grade time : ℕ) → time ≡ cycleTime grade → rate ≤ 100 → grade ≤ 15 → rate * time ≤ 8000
-product-small rate grade time e l m = rw e (mul-le-mul {n₁ = rate} {m₁ = cycleTime grade} {n₂ = 100} {m₂ = 80} l
-    (leb-true (cycleTime grade) 80 (all-below-facts 16 (λ n. leb (cycleTime n) 80) refl grade (omega arith))))
+product-small rate grade time e l m =
+    rw e (mul-le-mul {n₁ = rate} {m₁ = cycleTime grade} {n₂ = 100} {m₂ = 80} l (omega arith))
 
 -- The rule's block of a grade's cycle time.
 pub block-of : (rate grade time : ℕ) → time ≡ cycleTime grade → (rate * time + 3) / 4 ≡ blockFor rate grade

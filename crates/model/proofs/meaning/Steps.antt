@@ -5,13 +5,13 @@ use mathlib.Core.Path.{_≡_, refl, ap, _∙_}
 use mathlib.Core.Bool.{Bool, true, false, _&&_, not}
 use mathlib.Core.List.{List, _++_}
 use mathlib.Core.Option.{Option, some, none}
-use Prim.Native.Nat.{ℕ, suc, _+_, _-_, _*_, _<_, _≤_, max}
+use Prim.Native.Nat.{ℕ, suc, _+_, _-_, _*_, _≤_, max}
 use native.Mathlib.Omega.{arith}
-use lib.Dec.{eqb, ltb}
+use lib.Dec.{ltb}
 use lib.ListN.{length, drop, length-replicate, length-append}
 use borrow.Author.Tests.{ltb-true, ltb-false, ne-eqb, eqb-true, eq-eqb, le-leb, le-ltb, not-true}
 use Rattle.model.specs.Basics.{choose}
-use Rattle.model.specs.Sizes.{Sizes, Limits, Design, tailSize, full, oneFewer, cycleTime}
+use Rattle.model.specs.Sizes.{Sizes, Limits, Design, tailSize, full, oneFewer}
 use Rattle.model.specs.State.{Byte, empty, held, owed, State, fresh, valuesOf, countOf, tailBytes, headBytes}
 use Rattle.model.specs.State.{blocks}
 use Rattle.model.specs.Slot.{Call, oldestOf, heldCell, youngestCell, arrivalFull, isFull, swaps, without}
@@ -21,7 +21,6 @@ use Rattle.model.specs.Slot.{accept, Answer}
 use Rattle.model.specs.Lists.{joinedFillOf, readFillOf}
 use Rattle.model.specs.Arbiter.{canBeAsked, queueAfter, firstFrom, choice, lastAfter, noting}
 use Rattle.model.proofs.basics.Tests.{by-test, and-left, and-right}
-use Rattle.model.proofs.basics.AllOf.{all-below-facts}
 use Rattle.model.proofs.basics.Bytes.{values-without-same}
 
 -- "A fresh state has all L cells empty": as many as its design has, L in the paper's and L - 1 with one fewer.
@@ -34,11 +33,6 @@ full-cells limits s = fresh-cells (full limits) s
 pub fewer-cells : (limits : Limits) (s : Sizes)
     → length (fresh (oneFewer limits) s .cells) + 1 ≡ length (fresh (full limits) s .cells)
 fewer-cells limits s = omega (arith, full-cells limits s, fresh-cells (oneFewer limits) s)
-
--- "5 ns to 80 ns in steps of 5, grade 0 first."
-pub steps-of-five : (g : ℕ) → g < 16 → cycleTime g ≡ 5 * (g + 1)
-steps-of-five g l =
-    eqb-true (cycleTime g) (5 * (g + 1)) (all-below-facts 16 (λ n. eqb (cycleTime n) (5 * (n + 1))) refl g l)
 
 -- 1. The oldest cell has left, and its byte is fixed, before the arrival joins: the head as handed in delivers.
 pub leaves-first : (x : State) (call : Call) → joined x call .cells ≡ drop 1 (x .cells)

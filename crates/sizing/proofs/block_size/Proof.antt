@@ -1,5 +1,5 @@
 -- `sizing::block_size` meets its contract: each early return breaks one limit of the rule, and within all of them the
--- block is the rule's; cycle times are at most 80 ns, so that no product is too large.
+-- block is the rule's; up to grade 15 a cycle time is at most 80 ns, so that no product is too large.
 use native.Mathlib.Omega.{arith}
 use Rattle.sizing.proofs.Laws.{no-block, a-block, product-small, block-of}
 use borrow.Author.Needs.{needs}

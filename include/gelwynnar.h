@@ -262,7 +262,9 @@ typedef struct gel_memories {
 /* The memories of Q queues, b bytes to a block, K blocks to a queue; all 0 where these sizes are refused (1). */
 gel_memories gel_memory_sizes(size_t queues, size_t block, size_t depth);
 
-/* The bytes of a block at a line rate in Gb/s and a memory grade; 0 where the rule refuses them (11). */
+/* The bytes of a block at a line rate of 1 to 100 Gb/s and a memory grade of 0 to 15, whose cycle takes 5 * (grade + 1)
+ * ns: rate * cycle / 4, rounded up. 0 where the rule refuses them (11): a number outside its range, or a block over 128
+ * bytes. */
 size_t gel_block_size(size_t rate, size_t grade);
 
 /* ---- Scripts --------------------------------------------------------------------------------------------------- */

@@ -18,7 +18,9 @@ pub fn memory_sizes(queues: usize, block: usize, depth: usize) -> Memories {
     unsafe { raw::gel_memory_sizes(queues, block, depth) }
 }
 
-/// The bytes of a block at a rate in Gb/s and a memory grade; 0 where the rule refuses them.
+/// The bytes of a block at a rate of 1 to 100 Gb/s and a memory grade of 0 to 15, whose cycle takes 5 × (grade + 1) ns:
+/// rate × cycle / 4, rounded up. 0 where the rule refuses them (11): a number outside its range, or a block over 128
+/// bytes.
 pub fn block_size(rate: usize, grade: usize) -> usize {
     unsafe { raw::gel_block_size(rate, grade) }
 }

@@ -408,7 +408,7 @@ static void sizes(void) {
     CHECK(memories_are(gel_memory_sizes(0, 2, 4), 0, 0, 0, 0));
     CHECK(memories_are(gel_memory_sizes(SIZE_MAX, 2, 4), 0, 0, 0, 0));
     CHECK(gel_block_size(10, 9) == 125 && gel_block_size(1, 9) == 13 && gel_block_size(100, 0) == 125);
-    CHECK(gel_block_size(0, 9) == 0 && gel_block_size(100, 9) == 0 && gel_block_size(10, 16) == 0);
+    CHECK(gel_block_size(0, 9) == 0 && gel_block_size(100, 9) == 0 && gel_block_size(1, 16) == 0);
     CHECK(gel_block_size(SIZE_MAX, SIZE_MAX) == 0);
 }
 

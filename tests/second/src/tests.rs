@@ -74,6 +74,21 @@ fn sizing_ranges() {
     assert_eq!(block_size(7, 15), Err(11));
 }
 
+/// Request 2.4: the formula gives the paper's table, so that every block is as by the table. At 4 Gb/s it is the cycle
+/// time itself.
+#[test]
+fn grades_as_in_the_table() {
+    let table = [5, 10, 15, 20, 25, 30, 35, 40, 45, 50, 55, 60, 65, 70, 75, 80];
+    for (grade, time) in table.into_iter().enumerate() {
+        assert_eq!(block_size(4, grade as u64), Ok(time));
+        for rate in 1..=100 {
+            let block = (rate * time + 3) / 4;
+            let expected = if block <= 128 { Ok(block) } else { Err(11) };
+            assert_eq!(block_size(rate, grade as u64), expected);
+        }
+    }
+}
+
 #[test]
 fn c8_third_arrival_waits_for_the_read() {
     let mut state = fresh(1, 2, 1);

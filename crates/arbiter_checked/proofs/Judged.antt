@@ -1,18 +1,20 @@
 -- A slot of the arbiter's of a state of which 3 and 2 are judged: refused whatever would be chosen, or in place.
-use mathlib.Core.Path.{_≡_, refl, ap, sym}
+use mathlib.Core.Path.{_≡_, refl, ap, sym, _∙_}
 use mathlib.Core.List.{List}
 use mathlib.Core.Option.{Option}
 use Prim.Native.Nat.{ℕ, zero, suc}
 use lib.ListN.{length}
 use Rattle.model.specs.Sizes.{paper}
 use Rattle.model.specs.State.{Byte, State}
-use Rattle.model.specs.Slot.{Answer, refuse, slot}
+use Rattle.model.specs.Slot as model
+use Rattle.model.specs.Slot.{numberAlone, Answer, refuse, slot}
+use Rattle.model.specs.Lists.{taken}
 use Rattle.model.specs.Arbiter.{choice, arbiterCall, lastAfter, noting, arbiterSlot}
 use Rattle.layout.specs.Counts.{ByQueue}
-use Rattle.layout.specs.declared.Delivery.the-variants.{NoDelivery}
-use Rattle.layout.specs.declared.Chosen.the-variants.{Nothing}
 use Rattle.layout.specs.declared.Request.the-variants.{NoRequest}
 use Rattle.layout.specs.declared.Regs.{Regs}
+use Rattle.layout.specs.declared.Reply.{Reply}
+use Rattle.layout.specs.Calls.{replyIn}
 use Rattle.layout.specs.Views.{Arrays, Long, stateIn}
 use Rattle.slot_in_place.specs.Says.{Ready}
 use Rattle.slot_checked.specs.Says.{JudgeStateSays, CountsSay, judgedNumber, LeaveSays}
@@ -28,7 +30,7 @@ arbiter-refused : (n : ℕ) (x : State) (store : List ℕ) (arrival : Option Byt
     → arbiterSlot paper x store arrival ≡ refuse n x store
 arbiter-refused zero x store arrival f e = absurd (f refl)
 arbiter-refused (suc n) x store arrival f e =
-    ap (λ (a : Answer). noting (lastAfter (a .number) (choice x arrival) (x .lastAsked)) a) e
+    ap (λ (a : Answer). noting (lastAfter (a .reply .number) (choice x arrival) (x .lastAsked)) a) e
 
 module _ {regs : Regs} (m : Arrays) (store : List ℕ) {before : Regs} (read-in : before ≡ regs) {n : ℕ}
     {counts counts′ : ByQueue} (says : (n ≡ judgedNumber before m store)
@@ -39,21 +41,18 @@ module _ {regs : Regs} (m : Arrays) (store : List ℕ) {before : Regs} (read-in 
   judged : JudgeStateSays (stateIn regs m) (length store) n
   judged = judged-state (stateIn regs m) (length store) (here .0)
 
-  pub slot-refused : (arrival : Option Byte) → (n ≡ 0 → ⊥)
-      → ArbiterAdvanceSays regs m store arrival (record {
-        number = n;
-        delivery = NoDelivery;
-        written = Nothing;
-        read = Nothing;
-        asked = NoRequest;
-      }) regs m store
+  pub slot-refused : (arrival : Option Byte) {told : Reply} → (n ≡ 0 → ⊥) → replyIn told ≡ numberAlone n
+      → ArbiterAdvanceSays regs m store arrival (record { reply = told; asked = NoRequest }) regs m store
       × LeaveSays regs m counts store regs m counts′ store
-  slot-refused arrival f = (
+  slot-refused arrival {told} f alone = (
     record {
       answer-is =
-          sym (arbiter-refused n (stateIn regs m) store arrival f
+          ap (λ (r : model.Reply). record { reply = r; state = stateIn regs m; store = store }) alone
+          ∙ sym (arbiter-refused n (stateIn regs m) store arrival f
           (judged .refused f store (arbiterCall (stateIn regs m) arrival) refl));
-      asked-is = taken-not n (choice (stateIn regs m) arrival) f;
+      asked-is =
+          taken-not n (choice (stateIn regs m) arrival) f
+          ∙ ap (λ (r : model.Reply). taken (r .number) (choice (stateIn regs m) arrival)) (sym alone);
       as-given = λ _. (refl, refl);
     },
     leaves-refused regs m store (here .0) (here .1) f,

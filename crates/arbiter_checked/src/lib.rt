@@ -8,9 +8,7 @@ ghost use Rattle.arbiter_in_place.specs.Says.{ArbiterAdvanceSays};
 use arbiter_in_place::Arbitrated;
 use layout::Arrival;
 use layout::CellArray;
-use layout::Chosen;
 use layout::CountArray;
-use layout::Delivery;
 use layout::HeadArray;
 use layout::RegArray;
 use layout::Request;
@@ -53,11 +51,9 @@ pub fn slot(
         store.len(),
     );
     if number != 0 {
+        let refused = layout::number_alone(number);
         return Arbitrated {
-            number: number,
-            delivery: Delivery::NoDelivery,
-            written: Chosen::Nothing,
-            read: Chosen::Nothing,
+            reply: refused,
             asked: Request::NoRequest,
         };
     }

@@ -17,11 +17,11 @@ use Rattle.layout.specs.Calls.{requestIn}
 use Rattle.layout.specs.Counts.{ByQueue}
 use Rattle.layout.specs.declared.Request.{Request}
 use Rattle.layout.specs.declared.Regs.{Regs}
+use Rattle.layout.specs.declared.Reply.{Reply}
 use Rattle.layout.specs.Views.{Arrays, stateIn}
 use Rattle.layout.specs.Figures.{figuresIn, Figures}
 use Rattle.slot_in_place.specs.Says.{Ready, answerIn}
 use Rattle.slot_in_place.proofs.Standing as standing
-use Rattle.run_in_place.specs.declared.Answered.{Answered}
 use Rattle.run_in_place.specs.Says.{advancedTo, OneSlotSays}
 use Rattle.arbiter_choice.specs.Says.{choiceNow}
 use Rattle.arbiter_choice.proofs.Paper.{choice-is}
@@ -70,7 +70,7 @@ module _ {regs : Regs} {m : Arrays} {counts : ByQueue} {store : List ℕ} (r : R
   abbrev call : Call
   call = arbiterCall x arrival
 
-  module _ (regs₁ : Regs) (answered : Answered) {m′ : Arrays} {counts′ : ByQueue} {store′ : List ℕ}
+  module _ (regs₁ : Regs) (answered : Reply) {m′ : Arrays} {counts′ : ByQueue} {store′ : List ℕ}
       (one : OneSlotSays regs m store call (advancedTo regs₁ answered) m′ counts′ store′) where
     abbrev n : ℕ
     n = answered .number
@@ -102,13 +102,7 @@ module _ {regs : Regs} {m : Arrays} {counts : ByQueue} {store : List ℕ} (r : R
 
     -- All together: with the queue noted that was asked.
     pub composed : {regs′ : Regs} (told : Request) → requestIn told ≡ asked → regs′ ≡ noted (requestIn told) regs₁
-        → ArbiterAdvanceSays regs m store arrival (record {
-          number = answered .number;
-          delivery = answered .delivery;
-          written = answered .written;
-          read = answered .read;
-          asked = told;
-        }) regs′ m′ store′
+        → ArbiterAdvanceSays regs m store arrival (record { reply = answered; asked = told }) regs′ m′ store′
         × Ready regs′ m′ counts′ store′
     composed {regs′} told asks e = (
       record {
@@ -118,7 +112,7 @@ module _ {regs : Regs} {m : Arrays} {counts : ByQueue} {store : List ℕ} (r : R
             ∙ ap (λ (k : ℕ). noting k (slot paper x store call))
             (ap (lastAfter 0 asked) last-is
             ∙ last-alike n (choice x arrival) (regs .«last_asked»)
-            ∙ ap (λ (a : Answer). lastAfter (a .number) (choice x arrival) (regs .«last_asked»)) answers);
+            ∙ ap (λ (a : Answer). lastAfter (a .reply .number) (choice x arrival) (regs .«last_asked»)) answers);
         asked-is = asks;
         as-given = λ f. let back = one .as-given f in
             (is ∙ noted-refused n (choice x arrival) regs₁ f ∙ back .0, back .1);

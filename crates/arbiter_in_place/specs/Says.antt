@@ -30,18 +30,12 @@ noted asked regs = record {
 
 -- What it hands back, as the slot in place does.
 abbrev pub advancedBy : Regs → Arbitrated → Advanced
-advancedBy regs r = record {
-  regs = regs;
-  number = r .number;
-  delivery = r .delivery;
-  written = r .written;
-  read = r .read;
-}
+advancedBy regs r = record { regs = regs; reply = r .reply }
 
 -- The whole answer, state and store are those of the model's arbiter; the queue asked is its choice, where the slot is
 -- accepted; on a refusal the registers and the arrays are as they came, places past a fill included.
 pub record ArbiterAdvanceSays (regs : Regs) (m : Arrays) (store : List ℕ) (arrival : Option Byte) (r : Arbitrated)
     (regs′ : Regs) (m′ : Arrays) (store′ : List ℕ) : Type 0 where
   pub answer-is : answerIn (advancedBy regs′ r) m′ store′ ≡ arbiterSlot paper (stateIn regs m) store arrival
-  pub asked-is : requestIn (r .asked) ≡ taken (r .number) (choice (stateIn regs m) arrival)
-  pub as-given : (r .number ≡ 0 → ⊥) → (regs′ ≡ regs) × (m′ ≡ m)
+  pub asked-is : requestIn (r .asked) ≡ taken (r .reply .number) (choice (stateIn regs m) arrival)
+  pub as-given : (r .reply .number ≡ 0 → ⊥) → (regs′ ≡ regs) × (m′ ≡ m)

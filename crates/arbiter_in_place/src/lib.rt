@@ -9,12 +9,11 @@ ghost use Rattle.slot_in_place.specs.Says.{Ready};
 ghost use Rattle.arbiter_in_place.specs.Says.{noted, ArbiterAdvanceSays};
 use layout::Arrival;
 use layout::CellArray;
-use layout::Chosen;
 use layout::CountArray;
-use layout::Delivery;
 use layout::HeadArray;
 use layout::RegArray;
 use layout::Regs;
+use layout::Reply;
 use layout::Request;
 use layout::RingArray;
 use layout::TailArray;
@@ -55,13 +54,10 @@ fn note(regs: &mut RegArray, asked: Request)
     }
 }
 
-// What the slot answers, and the queue that was asked. The last one asked does not tell it, since "none" and "the same
+// What the slot tells, and the queue that was asked. The last one asked does not tell it, since "none" and "the same
 // again" leave the same.
 pub struct Arbitrated {
-    pub number: u8,
-    pub delivery: Delivery,
-    pub written: Chosen,
-    pub read: Chosen,
+    pub reply: Reply,
     pub asked: Request,
 }
 
@@ -91,7 +87,7 @@ pub fn advance(
     let request = arbiter_choice::choose(tails, heads, owing, stored, before, arrival);
     let calls = [run_words::call_word(arrival, request)];
     let mut answers = [0u64; 1];
-    let called = run_in_place::run_calls(
+    let reply = run_in_place::run_calls(
         tail,
         tails,
         head,
@@ -105,17 +101,10 @@ pub fn advance(
         &mut answers,
         store,
     );
-    let number = called.number;
-    let delivery = called.delivery;
-    let written = called.written;
-    let read = called.read;
-    let asked = asked_of(number, request);
+    let asked = asked_of(reply.number, request);
     note(regs, asked);
     Arbitrated {
-        number: number,
-        delivery: delivery,
-        written: written,
-        read: read,
+        reply: reply,
         asked: asked,
     }
 }

@@ -20,7 +20,7 @@ use Rattle.model.proofs.one_slot.StepsKeepRules.{length-tail-left}
 use Rattle.model.proofs.one_slot.Accepted.{Judged, Accepted}
 use Rattle.model.proofs.one_slot.Kept.{length-head-without, length-tail-written, tail-joined, tail-asked-fits}
 use Rattle.model.proofs.one_slot.Kept.{write-taken, read-taken, rules-3, rules-written, still-long}
-use Rattle.model.proofs.one_slot.Calls.{answer-is}
+use Rattle.model.proofs.one_slot.Calls.{reply-is, answer-is}
 use Rattle.model.proofs.delay.IdealSlot.{held-before}
 use Rattle.layout.proofs.States.{same-state}
 use Rattle.buffer.specs.OneStep.{opened, closed, CachesFit, DeliverAsks, AskAsks, WriteAsks, ReadAsks}
@@ -217,15 +217,20 @@ module _ (x : State) (store : List ℕ) (call : Call) (accepted : Accepted paper
                       → refusal paper x store call ≡ 0
                       → _≡_ {A = Answer}
                       (record {
-                        number = 0;
-                        delivered = given;
-                        written = written;
-                        read = readQueue;
+                        reply = record {
+                          number = 0;
+                          arrivalNumber = 0;
+                          requestNumber = 0;
+                          delivered = given;
+                          written = written;
+                          read = readQueue;
+                        };
                         state = x₆;
                         store = store₄;
                       })
                       (slot paper x store call)
                   all-in-turn turned gave none-refused =
-                      answer-is (accept x store call) _ refl gave to-write to-read (turned ∙ ap afterPhase state-5)
+                      answer-is (accept x store call) _ (reply-is _ _ refl refl refl gave to-write to-read)
+                      (turned ∙ ap afterPhase state-5)
                       store-4
                       ∙ ap (λ (n : ℕ). answer n x store call) (sym none-refused)

@@ -10,16 +10,15 @@ use lib.ListN.{length, replicate, length-replicate}
 use borrow.Author.Tests.{ltb-true, ltb-false}
 use Rattle.model.specs.Sizes.{paper, storeBytes}
 use Rattle.model.specs.State.{State, keeps}
-use Rattle.model.specs.Slot.{Call, Answer, delivery, queueToWrite, queueToRead, asked, wrote, wroteStore}
-use Rattle.model.specs.Slot.{refusal, accept, refuse, answer, slot}
+use Rattle.model.specs.Slot as model
+use Rattle.model.specs.Slot.{Call, numberAlone, Answer, wroteStore, refusal, accept, refuse, answer, slot}
 use Rattle.model.proofs.basics.Tests.{by-test}
 use Rattle.model.proofs.one_slot.Rules.{keeps-facts, keeps-holds}
 use Rattle.model.proofs.one_slot.Accepted.{RefusedOrAccepted, was-refused, was-accepted, outcome}
 use Rattle.model.proofs.one_slot.Kept.{Kept, slot-kept}
 use Rattle.model.proofs.one_slot.Calls.{answer-is}
-use Rattle.layout.specs.Calls.{chosenIn, deliveryIn}
-use Rattle.layout.specs.declared.Chosen.the-variants.{Nothing}
-use Rattle.layout.specs.declared.Delivery.the-variants.{NoDelivery}
+use Rattle.layout.specs.Calls.{replyIn}
+use Rattle.layout.specs.declared.Reply.{Reply}
 use Rattle.slot_checked.proofs.Judging.{three, two}
 use Rattle.slot_checked.proofs.Planned.{slot-number}
 use Rattle.buffer.specs.declared.State as code
@@ -28,16 +27,16 @@ use Rattle.buffer.specs.Says.{stateOf, JudgeSays, answerOf, SlotSays, St
 
 -- The slot's number tells of 3 and 2 whether they are ruled out.
 pub judge-says : (x : State) (bytes : ℕ) (call : Call) {r : ℕ}
-    → ((store : List ℕ) → length store ≡ bytes → r ≡ slot paper x store call .number) → JudgeSays x bytes call r
+    → ((store : List ℕ) → length store ≡ bytes → r ≡ slot paper x store call .reply .number) → JudgeSays x bytes call r
 judge-says x bytes call {r} number-is = record {
   number-is = number-is;
   can-step = λ not-3 not-2.
       by-test (keeps paper x)
       (λ t. by-test (ltb bytes (storeBytes (x .sizes)))
-      (λ u. absurd (not-2 (number ∙ ap (λ (a : Answer). a .number)
+      (λ u. absurd (not-2 (number ∙ ap (λ (a : Answer). a .reply .number)
       (two x store call t (omega (arith, long, ltb-true bytes (storeBytes (x .sizes)) u))))))
       (λ u. (t, ltb-false bytes (storeBytes (x .sizes)) u)))
-      (λ t. absurd (not-3 (number ∙ ap (λ (a : Answer). a .number) (three x store call t))));
+      (λ t. absurd (not-3 (number ∙ ap (λ (a : Answer). a .reply .number) (three x store call t))));
 }
   where
     store : List ℕ
@@ -46,7 +45,7 @@ judge-says x bytes call {r} number-is = record {
     long : length store ≡ bytes
     long = length-replicate bytes 0
 
-    number : r ≡ slot paper x store call .number
+    number : r ≡ slot paper x store call .reply .number
     number = number-is store long
 
 pub judged-clear : {x : State} (store : List ℕ) {call : Call} {r : ℕ} → JudgeSays x (length store) call r → r ≡ 0
@@ -54,38 +53,35 @@ pub judged-clear : {x : State} (store : List ℕ) {call : Call} {r : ℕ} → Ju
 judged-clear {x} store {call} says z = sym (slot-number x store call) ∙ sym (says .number-is store refl) ∙ z
 
 -- A slot that is refused before anything moves.
-abbrev notSlotted : code.State → ℕ → Slotted
-notSlotted s n = record { state = s; number = n; delivery = NoDelivery; written = Nothing; read = Nothing }
-
-refused-slot : (x : State) (store : List ℕ) (call : Call) {n : ℕ} → n ≡ slot paper x store call .number
+refused-slot : (x : State) (store : List ℕ) (call : Call) {n : ℕ} → n ≡ slot paper x store call .reply .number
     → (n ≡ 0 → ⊥) → refuse n x store ≡ slot paper x store call
 refused-slot x store call {n} e f = go (slot paper x store call) (outcome paper x store call) e
   where
-    go : (a : Answer) → RefusedOrAccepted paper x store call a → n ≡ a .number → refuse n x store ≡ a
+    go : (a : Answer) → RefusedOrAccepted paper x store call a → n ≡ a .reply .number → refuse n x store ≡ a
     go a (was-refused m e) z = ap (λ (k : ℕ). refuse k x store) z
     go a (was-accepted e) z = absurd (f z)
 
-pub refused-says : (s : code.State) (store : List ℕ) (call : Call) {n : ℕ}
-    → n ≡ slot paper (stateOf s) store call .number → (n ≡ 0 → ⊥) → SlotSays s store call (notSlotted s n) store
-refused-says s store call e f = record {
-  promised = refused-slot (stateOf s) store call e f;
+pub refused-says : (s : code.State) (store : List ℕ) (call : Call) {n : ℕ} {told : Reply}
+    → n ≡ slot paper (stateOf s) store call .reply .number → (n ≡ 0 → ⊥) → replyIn told ≡ numberAlone n
+    → SlotSays s store call (record { state = s; reply = told }) store
+refused-says s store call e f alone = record {
+  promised =
+      ap (λ (r : model.Reply). record { reply = r; state = stateOf s; store = store }) alone
+      ∙ refused-slot (stateOf s) store call e f;
   as-given = λ g. refl;
 }
 
 -- A slot that is carried out as the model accepts it.
 pub carried-says : (s : code.State) (store : List ℕ) (call : Call) {r : Slotted} {store′ : List ℕ}
-    → refusal paper (stateOf s) store call ≡ 0 → r .number ≡ 0
-    → stateOf (r .state) ≡ accept (stateOf s) store call .state → deliveryIn (r .delivery) ≡ delivery (stateOf s)
-    → chosenIn (r .written) ≡ queueToWrite (asked (stateOf s) call)
-    → chosenIn (r .read) ≡ queueToRead (wrote (stateOf s) call) → store′ ≡ wroteStore (stateOf s) store call
+    → refusal paper (stateOf s) store call ≡ 0 → replyIn (r .reply) ≡ accept (stateOf s) store call .reply
+    → stateOf (r .state) ≡ accept (stateOf s) store call .state → store′ ≡ wroteStore (stateOf s) store call
     → SlotSays s store call r store′
-carried-says s store call {r} {store′} clear zero-is state-is delivery-is written-is read-is store-is =
+carried-says s store call {r} {store′} clear reply-is state-is store-is =
     record {
       promised =
-          answer-is (accept (stateOf s) store call) (answerOf r store′) zero-is delivery-is written-is read-is state-is
-          store-is
+          answer-is (accept (stateOf s) store call) (answerOf r store′) reply-is state-is store-is
           ∙ ap (λ (n : ℕ). answer n (stateOf s) store call) (sym clear);
-      as-given = λ f. absurd (f zero-is);
+      as-given = λ f. absurd (f (ap (λ (t : model.Reply). t .number) reply-is));
     }
 
 -- What a slot leaves of a state that keeps the rules can be stepped again.

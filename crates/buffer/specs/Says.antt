@@ -10,7 +10,7 @@ use Rattle.model.specs.State.{State, empty, fresh, makingNumber, keeps}
 use Rattle.model.specs.Slot.{Call, Answer, slot}
 use Rattle.model.specs.Lists.{Promised}
 use Rattle.layout.specs.Lengths.{cellPlaces}
-use Rattle.layout.specs.Calls.{chosenIn, deliveryIn}
+use Rattle.layout.specs.Calls.{replyIn}
 use Rattle.layout.specs.Entries.{cellOf}
 use Rattle.layout.specs.Views.{Arrays, arrays, stateIn}
 use Rattle.layout.specs.Fresh.{freshRegs, freshArrays}
@@ -48,25 +48,18 @@ pub record MakeSays (q b k : ℕ) (r : Made) : Type 0 where
 -- What judging a slot promises, of any state and any store of so many bytes: the very number that the slot answers.
 -- `can-step`: where it is neither 3 nor 2, the state keeps the rules and the store is long enough.
 pub record JudgeSays (x : State) (bytes : ℕ) (call : Call) (r : ℕ) : Type 0 where
-  pub number-is : (store : List ℕ) → length store ≡ bytes → r ≡ slot paper x store call .number
+  pub number-is : (store : List ℕ) → length store ≡ bytes → r ≡ slot paper x store call .reply .number
   pub can-step : (r ≡ 3 → ⊥) → (r ≡ 2 → ⊥) → (keeps paper x ≡ true) × (storeBytes (x .sizes) ≤ bytes)
 
 -- A slot's answer in the model's terms.
 abbrev pub answerOf : Slotted → List ℕ → Answer
-answerOf r store = record {
-  number = r .number;
-  delivered = deliveryIn (r .delivery);
-  written = chosenIn (r .written);
-  read = chosenIn (r .read);
-  state = stateOf (r .state);
-  store = store;
-}
+answerOf r store = record { reply = replyIn (r .reply); state = stateOf (r .state); store = store }
 
 -- One slot: the answer, the whole state with its high marks and the whole store are those of the model's slot. On a
 -- refusal the very record comes back, places past a fill included.
 pub record SlotSays (s : code.State) (store : List ℕ) (call : Call) (r : Slotted) (store′ : List ℕ) : Type 0 where
   pub promised : Promised paper (stateOf s) store call (answerOf r store′)
-  pub as-given : (r .number ≡ 0 → ⊥) → r .state ≡ s
+  pub as-given : (r .reply .number ≡ 0 → ⊥) → r .state ≡ s
 
 -- The same of a step, and that what it leaves can be stepped again.
 pub record StepSays (s : code.State) (store : List ℕ) (call : Call) (r : Slotted) (store′ : List ℕ) : Type 0 where

@@ -12,13 +12,12 @@ ghost use Rattle.buffer.specs.Says.{stateOf, freshState, MakeSays, Judge
 use layout::Arrival;
 use layout::CELL_PLACES;
 use layout::CellArray;
-use layout::Chosen;
-use layout::Delivery;
 use layout::EMPTY;
 use layout::HEAD_PLACES;
 use layout::HeadArray;
 use layout::QUEUE_PLACES;
 use layout::Regs;
+use layout::Reply;
 use layout::Request;
 use layout::RingArray;
 use layout::TAIL_PLACES;
@@ -45,13 +44,10 @@ pub struct Made {
     pub number: u8,
 }
 
-// A slot's answer: the state, the paper's number, the delivery, the queues written and read.
+// A slot's answer: the state, and what the slot tells.
 pub struct Slotted {
     pub state: State,
-    pub number: u8,
-    pub delivery: Delivery,
-    pub written: Chosen,
-    pub read: Chosen,
+    pub reply: Reply,
 }
 
 // The oldest of l cells leaves, and `cell` comes in as the youngest: of an array, since no field is lent as a slice.
@@ -145,12 +141,10 @@ impl State {
         );
         let number = plan.number;
         if number != 0 {
+            let refused = layout::number_alone(number);
             return Slotted {
                 state: self,
-                number: number,
-                delivery: Delivery::NoDelivery,
-                written: Chosen::Nothing,
-                read: Chosen::Nothing,
+                reply: refused,
             };
         }
         let owes = plan.owes;
@@ -204,10 +198,14 @@ impl State {
         let delivery = gave.delivery;
         Slotted {
             state: self,
-            number: 0,
-            delivery: delivery,
-            written: written,
-            read: fetched,
+            reply: Reply {
+                number: 0,
+                arrival_number: 0,
+                request_number: 0,
+                delivery: delivery,
+                written: written,
+                read: fetched,
+            },
         }
     }
 

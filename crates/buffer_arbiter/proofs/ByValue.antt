@@ -25,14 +25,7 @@ recordOf regs m = record {
 }
 
 abbrev slottedOf : Regs → Arrays → Arbitrated → ArbiterSlotted
-slottedOf regs m r = record {
-  state = recordOf regs m;
-  number = r .number;
-  delivery = r .delivery;
-  written = r .written;
-  read = r .read;
-  asked = r .asked;
-}
+slottedOf regs m r = record { state = recordOf regs m; reply = r .reply; asked = r .asked }
 
 pub by-value : (s : code.State) {store : List ℕ} {arrival : Option Byte} {r : Arbitrated} {lent lent′ next : Regs}
     (m : Arrays) {store′ : List ℕ} → lent ≡ s .regs → next ≡ lent′

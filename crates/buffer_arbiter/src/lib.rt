@@ -5,19 +5,15 @@ ghost use Rattle.buffer_arbiter.specs.Says.{ArbiterSlotSays};
 ghost use Rattle.buffer_arbiter.specs.Served.{CallsServed};
 use buffer::State;
 use layout::Arrival;
-use layout::Chosen;
-use layout::Delivery;
 use layout::QUEUE_PLACES;
 use layout::REGS;
+use layout::Reply;
 use layout::Request;
 
 // What the slot hands back: what `State::slot` does, and the queue that was asked, or none.
 pub struct ArbiterSlotted {
     pub state: State,
-    pub number: u8,
-    pub delivery: Delivery,
-    pub written: Chosen,
-    pub read: Chosen,
+    pub reply: Reply,
     pub asked: Request,
 }
 
@@ -49,10 +45,7 @@ pub fn slot(state: State, arrival: Arrival, store: &mut [u8]) -> ArbiterSlotted
         store,
     );
     let next = layout::regs_in(&lent);
-    let number = answer.number;
-    let delivery = answer.delivery;
-    let written = answer.written;
-    let read = answer.read;
+    let reply = answer.reply;
     let asked = answer.asked;
     ArbiterSlotted {
         state: State {
@@ -63,10 +56,7 @@ pub fn slot(state: State, arrival: Arrival, store: &mut [u8]) -> ArbiterSlotted
             firsts: firsts,
             stored: stored,
         },
-        number: number,
-        delivery: delivery,
-        written: written,
-        read: read,
+        reply: reply,
         asked: asked,
     }
 }

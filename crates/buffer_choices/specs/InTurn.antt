@@ -72,10 +72,14 @@ pub record ByContract (s : code.State) (store : List ℕ) (arrival : Arrival) (r
 -- The answer that the calls make together.
 abbrev pub answerOfSteps : StepAnswers → Answer
 answerOfSteps g = record {
-  number = 0;
-  delivered = deliveryIn (g .delivered);
-  written = chosenIn (g .written);
-  read = chosenIn (g .readQueue);
+  reply = record {
+    number = 0;
+    arrivalNumber = 0;
+    requestNumber = 0;
+    delivered = deliveryIn (g .delivered);
+    written = chosenIn (g .written);
+    read = chosenIn (g .readQueue);
+  };
   state = stateOf (g .after-turn);
   store = g .store;
 }

@@ -19,10 +19,10 @@ use buffer::Slotted;
 use buffer::State;
 use layout::Arrival;
 use layout::Chosen;
-use layout::Delivery;
 use layout::HEAD_PLACES;
 use layout::OWED;
 use layout::QUEUE_PLACES;
+use layout::Reply;
 use layout::Request;
 use layout::TAIL_PLACES;
 
@@ -249,12 +249,10 @@ pub fn in_turn(state: State, arrival: Arrival, request: Request, store: &mut [u8
 {
     let number = state.judge(arrival, request, store.len());
     if number != 0 {
+        let refused = layout::number_alone(number);
         return Slotted {
             state: state,
-            number: number,
-            delivery: Delivery::NoDelivery,
-            written: Chosen::Nothing,
-            read: Chosen::Nothing,
+            reply: refused,
         };
     }
     let swapping = swaps(state, arrival, request);
@@ -274,9 +272,13 @@ pub fn in_turn(state: State, arrival: Arrival, request: Request, store: &mut [u8
     let turned = refilled.turn();
     Slotted {
         state: turned,
-        number: 0,
-        delivery: delivery,
-        written: written,
-        read: readQueue,
+        reply: Reply {
+            number: 0,
+            arrival_number: 0,
+            request_number: 0,
+            delivery: delivery,
+            written: written,
+            read: readQueue,
+        },
     }
 }

@@ -16,14 +16,7 @@ RunSays s calls answers store r answers′ store′ =
 
 -- What a stretch of idle slots hands back, as it is on lent arrays.
 abbrev pub passedOf : Idled → Passed
-passedOf r = record {
-  regs = r .state .regs;
-  passed = r .passed;
-  number = r .number;
-  delivery = r .delivery;
-  written = r .written;
-  read = r .read;
-}
+passedOf r = record { regs = r .state .regs; passed = r .passed; reply = r .reply }
 
 -- A stretch of at most n idle slots is the model's own: how many passed, all before the last being quiet, what the last
 -- answered or that there was none, the whole state and the whole store.

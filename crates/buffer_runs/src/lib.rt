@@ -7,13 +7,12 @@ ghost use Rattle.buffer_runs.specs.Says.{RunSays, IdleSays};
 ghost use Rattle.buffer_runs.specs.Demand.{MixedCallsMeet};
 use buffer::State;
 use layout::CellArray;
-use layout::Chosen;
 use layout::CountArray;
-use layout::Delivery;
 use layout::HeadArray;
 use layout::QUEUE_PLACES;
 use layout::REGS;
 use layout::Regs;
+use layout::Reply;
 use layout::RingArray;
 use layout::TailArray;
 
@@ -93,14 +92,11 @@ pub fn run(mut state: State, calls: &[u64], answers: &mut [u64], store: &mut [u8
     state
 }
 
-// How far a stretch of idle slots went: the state, how many slots, and what the last one answered.
+// How far a stretch of idle slots went: the state, how many slots, and what the last one told.
 pub struct Idled {
     pub state: State,
     pub passed: usize,
-    pub number: u8,
-    pub delivery: Delivery,
-    pub written: Chosen,
-    pub read: Chosen,
+    pub reply: Reply,
 }
 
 // At most n idle slots: it stops with the first that is not quiet, so that no delivery, no move and no refusal is lost.
@@ -132,10 +128,7 @@ pub fn idle(state: State, n: usize, store: &mut [u8]) -> Idled
     );
     let left = stretch.regs;
     let passed = stretch.passed;
-    let number = stretch.number;
-    let delivery = stretch.delivery;
-    let written = stretch.written;
-    let read = stretch.read;
+    let reply = stretch.reply;
     Idled {
         state: State {
             regs: left,
@@ -146,10 +139,7 @@ pub fn idle(state: State, n: usize, store: &mut [u8]) -> Idled
             stored: stored,
         },
         passed: passed,
-        number: number,
-        delivery: delivery,
-        written: written,
-        read: read,
+        reply: reply,
     }
 }
 

@@ -4,8 +4,6 @@ ghost use mathlib.Core.Path.{_≡_};
 ghost use Rattle.by_value.specs.Says.{DrivenIs, DroveSays};
 use buffer::Slotted;
 use buffer::State;
-use layout::Chosen;
-use layout::Delivery;
 use layout::Regs;
 
 // What a list answers: 0 and the high marks of the state that it leaves; or 1 and 0, where the sizes are refused.
@@ -42,12 +40,10 @@ fn finished(regs: Regs) -> Driven
 fn at_rest(state: State) -> Slotted
     ensures { λ r. ⌜ r .state ≡ state ⌝ }
 {
+    let none = layout::number_alone(0);
     Slotted {
         state: state,
-        number: 0,
-        delivery: Delivery::NoDelivery,
-        written: Chosen::Nothing,
-        read: Chosen::Nothing,
+        reply: none,
     }
 }
 
@@ -77,10 +73,8 @@ pub extern "C" fn by_value_slots(
         let arrival = run_words::arrival_in(call);
         let request = run_words::request_in(call);
         r = state.slot(arrival, request, store);
-        let delivery = r.delivery;
-        let written = r.written;
-        let read = r.read;
-        answers[i] = run_words::answer_word(r.number, delivery, written, read);
+        let reply = r.reply;
+        answers[i] = run_words::answer_word(reply);
         i += 1;
     }
     finished(r.state.regs)

@@ -34,7 +34,7 @@ pub data ArrivalAnswers : ℕ → Type 0 where
 
 -- One slot: its number is the first refusal's, and it leaves the sizes as they are.
 module _ (design : Design) (x : State) (store : List ℕ) where
-  number-is : (n : ℕ) (call : Call) → answer n x store call .number ≡ n
+  number-is : (n : ℕ) (call : Call) → answer n x store call .reply .number ≡ n
   number-is zero call = refl
   number-is (suc n) call = refl
 
@@ -60,7 +60,7 @@ module _ (design : Design) (x : State) (store : List ℕ) where
       may t n = when-has ArrivalAnswers t n is-0
 
   slot-answers : (queues : ℕ) (call : Call) → queues ≤ x .sizes .Q → ArrivesBelow queues call
-      → ArrivalAnswers (slot design x store call .number)
+      → ArrivalAnswers (slot design x store call .reply .number)
   slot-answers queues call most (arrives q v l) =
       subst ArrivalAnswers (sym (number-is (refusal design x store (arrival q v)) (arrival q v)))
       (refusal-of-arrival q v (omega (arith, l, most)))
@@ -68,7 +68,7 @@ module _ (design : Design) (x : State) (store : List ℕ) where
 -- All along a list.
 pub run-answers : (design : Design) (queues : ℕ) (x : State) (store : List ℕ) (calls : List Call)
     → queues ≤ x .sizes .Q → All (ArrivesBelow queues) calls
-    → All (λ (step : Step). ArrivalAnswers (step .number)) (run design x store calls)
+    → All (λ (step : Step). ArrivalAnswers (step .reply .number)) (run design x store calls)
 run-answers design queues x store [] most h = tt
 run-answers design queues x store (call ∷ calls) most h = (
   slot-answers design x store queues call most (h .0),
@@ -86,8 +86,8 @@ not-4 is-8 e = omega (arith, e)
 not-4 is-9 e = omega (arith, e)
 not-4 is-10 e = omega (arith, e)
 
-pub none-4 : (steps : List Step) → All (λ (step : Step). ArrivalAnswers (step .number)) steps
-    → All (λ (step : Step). step .number ≡ 4 → ⊥) steps
+pub none-4 : (steps : List Step) → All (λ (step : Step). ArrivalAnswers (step .reply .number)) steps
+    → All (λ (step : Step). step .reply .number ≡ 4 → ⊥) steps
 none-4 [] h = tt
 none-4 (step ∷ steps) h = (not-4 (h .0), none-4 steps (h .1))
 
@@ -102,9 +102,9 @@ left-5 is-8 two three eight nine ten refused = absurd (eight refl)
 left-5 is-9 two three eight nine ten refused = absurd (nine refl)
 left-5 is-10 two three eight nine ten refused = absurd (ten refl)
 
-pub none-but-5 : (steps : List Step) → All (λ (step : Step). ArrivalAnswers (step .number)) steps
-    → All (λ (step : Step). step .number ≡ 2 → ⊥) steps → All (λ (step : Step). step .number ≡ 3 → ⊥) steps
-    → All NoMiss steps → All (λ (step : Step). (step .number ≡ 0 → ⊥) → step .number ≡ 5) steps
+pub none-but-5 : (steps : List Step) → All (λ (step : Step). ArrivalAnswers (step .reply .number)) steps
+    → All (λ (step : Step). step .reply .number ≡ 2 → ⊥) steps → All (λ (step : Step). step .reply .number ≡ 3 → ⊥) steps
+    → All NoMiss steps → All (λ (step : Step). (step .reply .number ≡ 0 → ⊥) → step .reply .number ≡ 5) steps
 none-but-5 [] h two three miss = tt
 none-but-5 (step ∷ steps) h two three miss = (
   left-5 (h .0) (two .0) (three .0) (miss .0 .not-8) (miss .0 .not-9) (miss .0 .not-10),

@@ -39,13 +39,13 @@ module _ (s : Sizes) (capture store : List ℕ) (bytes : Bytes capture) (e : cap
       subst (All (ArrivesBelow 8)) (sym (capture-slots s (framesOf capture)))
       (slots-of-eight (framesOf capture) (frames-bytes capture (framesOf capture) (good .frames-there) bytes))
 
-  answers : All (λ (step : Step). ArrivalAnswers (step .number)) steps
+  answers : All (λ (step : Step). ArrivalAnswers (step .reply .number)) steps
   answers = run-answers paper 8 (fresh paper s) store (captureSlots s capture) (good .eight-queues) eight
 
   meets : ListMeets s store steps
   meets = every-list paperLimits s store (captureSlots s capture) (good .accepted)
 
-  only-full : storeBytes s ≤ length store → All (λ (step : Step). (step .number ≡ 0 → ⊥) → step .number ≡ 5) steps
+  only-full : storeBytes s ≤ length store → All (λ (step : Step). (step .reply .number ≡ 0 → ⊥) → step .reply .number ≡ 5) steps
   only-full long = none-but-5 steps answers (meets .no-2 long) (meets .no-3) (meets .no-miss)
 
 -- The answers, by their laws.

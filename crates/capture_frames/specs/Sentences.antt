@@ -116,11 +116,11 @@ pub record CapturesSay : Type 0 where
   pub queue-of-eight : (frame : List ℕ) → Bytes frame → queueOf frame < 8
   pub never-4 :
       (s : Sizes) (capture store : List ℕ) → Bytes capture → captureFault s capture ≡ 0
-      → All (λ (step : Step). step .number ≡ 4 → ⊥) (listOf paper s store (captureSlots s capture))
+      → All (λ (step : Step). step .reply .number ≡ 4 → ⊥) (listOf paper s store (captureSlots s capture))
   pub only-5 :
       (s : Sizes) (capture store : List ℕ) → Bytes capture → captureFault s capture ≡ 0
       → storeBytes s ≤ length store
-      → All (λ (step : Step). (step .number ≡ 0 → ⊥) → step .number ≡ 5) (listOf paper s store (captureSlots s capture))
+      → All (λ (step : Step). (step .reply .number ≡ 0 → ⊥) → step .reply .number ≡ 5) (listOf paper s store (captureSlots s capture))
   -- How long a script is, and an output that always has room for it: three bytes for each of the capture's.
   pub length-is :
       (s : Sizes) (capture : List ℕ)

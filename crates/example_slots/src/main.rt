@@ -6,13 +6,14 @@ use layout::Request;
 // One slot: prints what it did, and hands its state on. A refused slot did not happen.
 fn one_slot(t: u64, state: State, arrival: Arrival, request: Request, store: &mut [u8]) -> State {
     let r = state.slot(arrival, request, store);
-    if r.number != 0 {
-        example_print::refusal(t, r.number);
+    let reply = r.reply;
+    if reply.number != 0 {
+        example_print::refusal(t, reply.number);
         return r.state;
     }
-    let delivery = r.delivery;
-    let written = r.written;
-    let read = r.read;
+    let delivery = reply.delivery;
+    let written = reply.written;
+    let read = reply.read;
     example_print::moves(t, delivery, written, read);
     r.state
 }

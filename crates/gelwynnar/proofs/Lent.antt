@@ -1,19 +1,17 @@
 -- Slots whose registers are read from an array and put back there, and whose answers are told as numbers.
 use mathlib.Core.Path.{_≡_, refl, ap, sym, _∙_, subst}
 use mathlib.Core.List.{List}
-use mathlib.Core.Option.{Option, none}
 use Prim.Native.Nat.{ℕ}
 use lib.ListN.{length}
 use Rattle.model.specs.Sizes.{paper}
-use Rattle.model.specs.State.{Byte}
 use Rattle.model.specs.Slot as model
-use Rattle.model.specs.Slot.{Call, refuse, slot}
-use Rattle.model.specs.Idle.{lastAnswer}
+use Rattle.model.specs.Slot.{Call, numberAlone, refuse, slot}
 use Rattle.layout.specs.Counts.{ByQueue}
-use Rattle.layout.specs.Calls.{chosenIn, deliveryIn, arrivalIn, requestIn, callIn}
+use Rattle.layout.specs.Calls.{arrivalIn, requestIn, callIn, replyIn}
 use Rattle.layout.specs.declared.Arrival.{Arrival}
 use Rattle.layout.specs.declared.Request.{Request}
 use Rattle.layout.specs.declared.Regs.{Regs}
+use Rattle.layout.specs.declared.Reply.{Reply}
 use Rattle.layout.specs.Views.{Arrays, Long, stateIn}
 use Rattle.slot_plan.specs.declared.Plan.{Plan}
 use Rattle.slot_in_place.specs.Says.{Ready, answerIn}
@@ -22,33 +20,23 @@ use Rattle.slot_checked.proofs.Judging.{judged-state}
 use Rattle.slot_checked.proofs.Clearing.{ready-counted, leaves-refused, leaves-ready, judged-lent}
 use Rattle.run_words.specs.Words.{nearByte, nearQueue}
 use Rattle.run_words.proofs.Nearest.{read-slot}
-use Rattle.run_in_place.specs.declared.Answered.{Answered}
 use Rattle.run_in_place.specs.Says.{advancedTo, OneSlotSays}
 use Rattle.run_checked.specs.Says.{IdleCheckedSays}
 use Rattle.idle_in_place.specs.declared.Passed.{Passed}
 use Rattle.gelwynnar.specs.declared.slots.Answer.{Answer}
 use Rattle.gelwynnar.specs.declared.slots.DeliveryFields.{DeliveryFields}
 use Rattle.gelwynnar.specs.declared.slots.ChosenFields.{ChosenFields}
-use Rattle.gelwynnar.specs.Slots.{flag, queueTold, deliveryTold, valueTold, answerTold, told}
+use Rattle.gelwynnar.specs.Slots.{flag, queueTold, deliveryTold, valueTold, told}
 use Rattle.gelwynnar.specs.Slots.{SlotLentSays, IdleLentSays}
 
--- An answer is told by its parts.
-told-parts : (n : ℕ) (d : Option Byte) (w r : Option ℕ) (a : model.Answer) → n ≡ a .number → d ≡ a .delivered
-    → w ≡ a .written → r ≡ a .read → answerTold n d w r ≡ told a
-told-parts n d w r a en ed ew er =
-    ap (λ (k : ℕ). answerTold k d w r) en
-    ∙ ap (λ (y : Option Byte). answerTold (a .number) y w r) ed
-    ∙ ap (λ (q : Option ℕ). answerTold (a .number) (a .delivered) q r) ew
-    ∙ ap (λ (q : Option ℕ). answerTold (a .number) (a .delivered) (a .written) q) er
-
 -- Each field of an answer by itself.
-pub told-fields : {number : ℕ} (delivered : Option Byte) (written read : Option ℕ) {gave : DeliveryFields}
-    {wrote fetched : ChosenFields}
-    → (gave .delivers ≡ flag delivered) × (gave .value ≡ valueTold delivered) × (gave .queue ≡ deliveryTold delivered)
-    → (wrote .moves ≡ flag written) × (wrote .queue ≡ queueTold written)
-    → (fetched .moves ≡ flag read) × (fetched .queue ≡ queueTold read)
+pub told-fields : (t : model.Reply) {gave : DeliveryFields} {wrote fetched : ChosenFields}
+    → (gave .delivers ≡ flag (t .delivered)) × (gave .value ≡ valueTold (t .delivered))
+    × (gave .queue ≡ deliveryTold (t .delivered))
+    → (wrote .moves ≡ flag (t .written)) × (wrote .queue ≡ queueTold (t .written))
+    → (fetched .moves ≡ flag (t .read)) × (fetched .queue ≡ queueTold (t .read))
     → _≡_ {A = Answer} (record {
-      number = number;
+      number = t .number;
       dropped = 0;
       delivers = gave .delivers;
       writes = wrote .moves;
@@ -58,17 +46,17 @@ pub told-fields : {number : ℕ} (delivered : Option Byte) (written read : Optio
       written = wrote .queue;
       read = fetched .queue;
       «slots_left» = 0;
-    }) (answerTold number delivered written read)
-told-fields delivered written read d w r = rw (d .0, d .1, d .2, w .0, w .1, r .0, r .1)
+    }) (told t)
+told-fields t d w r = rw (d .0, d .1, d .2, w .0, w .1, r .0, r .1)
 
 -- A run of one call, told: `regs` is what the array of registers held, `regs′` what it holds then.
-pub stepped : {regs : Regs} (regs′ : Regs) (m m′ : Arrays) {store store′ : List ℕ} {call : Call} (r : Answered)
+pub stepped : {regs : Regs} (regs′ : Regs) (m m′ : Arrays) {store store′ : List ℕ} {call : Call} (r : Reply)
     {counts′ : ByQueue} {a : Answer} → OneSlotSays regs m store call (advancedTo regs′ r) m′ counts′ store′
-    → a ≡ answerTold (r .number) (deliveryIn (r .delivery)) (chosenIn (r .written)) (chosenIn (r .read))
+    → a ≡ told (replyIn r)
     → SlotLentSays regs m store call a regs′ m′ store′ × Ready regs′ m′ counts′ store′
 stepped {regs} regs′ m m′ {store} {store′} {call} r {counts′} {a} one tells = (
   record {
-    answer-is = tells ∙ ap told answer;
+    answer-is = tells ∙ ap (λ (b : model.Answer). told (b .reply)) answer;
     state-is = ap (λ (b : model.Answer). b .state) answer;
     store-is = ap (λ (b : model.Answer). b .store) answer;
     as-given = λ f. one .as-given (λ z. f (ap (λ (b : Answer). b .number) tells ∙ z));
@@ -85,17 +73,14 @@ module _ {regs regs′ : Regs} (m m′ : Arrays) {store store′ : List ℕ} {be
       → IdleCheckedSays (stateIn before m) store n r (stateIn (r .regs) m′) store′
       × LeaveSays before m counts store (r .regs) m′ counts′ store′
       → regs′ ≡ r .regs
-      → a ≡ answerTold (r .number) (deliveryIn (r .delivery)) (chosenIn (r .written)) (chosenIn (r .read))
+      → a ≡ told (replyIn (r .reply))
       → IdleLentSays (stateIn regs m) store n (record { passed = r .passed; last = a }) (stateIn regs′ m′) store′
       × LeaveSays regs m counts store regs′ m′ counts′ store′
   idled {n} {counts} {counts′} {r} {a} says put tells = (
     record {
       passed-is = idle .stretch .passed-is;
       quiet-first = idle .stretch .quiet-first;
-      last-is = tells
-          ∙ told-parts (r .number) (deliveryIn (r .delivery)) (chosenIn (r .written)) (chosenIn (r .read))
-          (lastAnswer paper (stateIn regs m) store (r .passed)) (idle .stretch .last-number)
-          (idle .stretch .last-delivered) (idle .stretch .last-written) (idle .stretch .last-read);
+      last-is = tells ∙ ap told (idle .stretch .last-is);
       state-is = idle .state-is;
       store-is = idle .store-is;
     },
@@ -124,11 +109,11 @@ module _ {regs : Regs} (m : Arrays) (store : List ℕ) {before : Regs} (read-in 
   judged : JudgeStateSays (stateIn regs m) (length store) n
   judged = judged-state (stateIn regs m) (length store) (here .0)
 
-  pub slot-refused : {call : Call} {a : Answer} → (n ≡ 0 → ⊥) → a ≡ answerTold n none none none
+  pub slot-refused : {call : Call} {a : Answer} → (n ≡ 0 → ⊥) → a ≡ told (numberAlone n)
       → SlotLentSays regs m store call a regs m store × LeaveSays regs m counts store regs m counts′ store
   slot-refused {call} {a} f tells = (
     record {
-      answer-is = tells ∙ ap told (sym refused);
+      answer-is = tells ∙ ap (λ (b : model.Answer). told (b .reply)) (sym refused);
       state-is = ap (λ (b : model.Answer). b .state) (sym refused);
       store-is = ap (λ (b : model.Answer). b .store) (sym refused);
       as-given = λ _. (refl, refl);
@@ -153,8 +138,8 @@ pub number-judged : {regs : Regs} (m : Arrays) {bytes : ℕ} {before : Regs} →
     → (call : Call) (arrival : Arrival) (request : Request) {r : Plan}
     → PlanCheckedSays (stateIn before m) bytes (callIn arrival request) r
     → arrivalIn arrival ≡ nearByte (call .arrival) → requestIn request ≡ nearQueue (call .request)
-    → (store : List ℕ) → length store ≡ bytes → r .number ≡ slot paper (stateIn regs m) store call .number
+    → (store : List ℕ) → length store ≡ bytes → r .number ≡ slot paper (stateIn regs m) store call .reply .number
 number-judged {regs} m {before = before} read-in call arrival request says ea er store long =
     says .number-is store long
-    ∙ ap (λ (a : model.Answer). a .number) (read-slot (stateIn before m) store call ea er)
-    ∙ ap (λ (k : Regs). slot paper (stateIn k m) store call .number) read-in
+    ∙ ap (λ (a : model.Answer). a .reply .number) (read-slot (stateIn before m) store call ea er)
+    ∙ ap (λ (k : Regs). slot paper (stateIn k m) store call .reply .number) read-in

@@ -39,22 +39,19 @@ valueTold none = 0
 valueTold (some y) = y .value
 
 -- No slot of this model drops a half or tells how many slots are left.
-abbrev pub answerTold : ℕ → Option Byte → Option ℕ → Option ℕ → Answer
-answerTold number delivered written read = record {
-  number = number;
+abbrev pub told : model.Reply → Answer
+told r = record {
+  number = r .number;
   dropped = 0;
-  delivers = flag delivered;
-  writes = flag written;
-  reads = flag read;
-  value = valueTold delivered;
-  queue = deliveryTold delivered;
-  written = queueTold written;
-  read = queueTold read;
+  delivers = flag (r .delivered);
+  writes = flag (r .written);
+  reads = flag (r .read);
+  value = valueTold (r .delivered);
+  queue = deliveryTold (r .delivered);
+  written = queueTold (r .written);
+  read = queueTold (r .read);
   «slots_left» = 0;
 }
-
-abbrev pub told : model.Answer → Answer
-told a = answerTold (a .number) (a .delivered) (a .written) (a .read)
 
 -- "A making of a state checks 1 only." Accepted sizes give the fresh state, ready for slots with every store that is
 -- long enough; with any other, all is as it came.
@@ -72,7 +69,7 @@ pub record OpenSays (q b k r : ℕ) (regs : List ℕ) (m : Arrays) (counts : ByQ
 -- and the arrays are as they came, places past a fill included.
 pub record SlotLentSays (regs : Regs) (m : Arrays) (store : List ℕ) (call : Call) (r : Answer) (regs′ : Regs)
     (m′ : Arrays) (store′ : List ℕ) : Type 0 where
-  pub answer-is : r ≡ told (slot paper (stateIn regs m) store call)
+  pub answer-is : r ≡ told (slot paper (stateIn regs m) store call .reply)
   pub state-is : stateIn regs′ m′ ≡ slot paper (stateIn regs m) store call .state
   pub store-is : store′ ≡ slot paper (stateIn regs m) store call .store
   pub as-given : (r .number ≡ 0 → ⊥) → (regs′ ≡ regs) × (m′ ≡ m)
@@ -83,6 +80,6 @@ pub record IdleLentSays (x : State) (store : List ℕ) (n : ℕ) (r : Stretched)
     : Type 0 where
   pub passed-is : r .passed ≡ stretchLength paper x store n
   pub quiet-first : All QuietStep (run paper x store (idles (r .passed - 1)))
-  pub last-is : r .last ≡ told (lastAnswer paper x store (r .passed))
+  pub last-is : r .last ≡ told (lastAnswer paper x store (r .passed) .reply)
   pub state-is : x′ ≡ lastState paper x store (idles (r .passed))
   pub store-is : store′ ≡ lastStore paper x store (idles (r .passed))

@@ -1,14 +1,14 @@
 // Slots in which the round robin arbiter chooses, for C callers: lent as in slots.rt. Of the call's word only the
 // arrival is looked at.
 ghost use mathlib.Core.Path.{_≡_};
-ghost use Rattle.layout.specs.Calls.{requestIn};
+ghost use Rattle.layout.specs.Calls.{requestIn, replyIn};
 ghost use Rattle.layout.specs.Lent.{given, found, left, countsGiven, countsFound, countsLeft};
 ghost use Rattle.layout.specs.Views.{Long, regsIn};
 ghost use Rattle.slot_in_place.specs.Says.{Ready};
 ghost use Rattle.slot_checked.specs.Says.{LeaveSays};
 ghost use Rattle.run_words.specs.Words.{callOf};
 ghost use Rattle.gelwynnar.specs.Slots.{flag, queueTold};
-ghost use Rattle.gelwynnar.specs.Arbiter.{fieldsTold, ArbiterLentSays};
+ghost use Rattle.gelwynnar.specs.Arbiter.{arbiterTold, ArbiterLentSays};
 use crate::slots::Answer;
 use arbiter_in_place::Arbitrated;
 use layout::CellArray;
@@ -46,14 +46,11 @@ fn asked_fields(request: Request) -> AskedFields
 }
 
 fn tell_arbiter(answer: Arbitrated) -> ArbiterAnswer
-    ensures { λ r. ⌜ r ≡ fieldsTold answer ⌝ }
+    ensures { λ r. ⌜ r ≡ arbiterTold (replyIn (answer .reply)) (requestIn (answer .asked)) ⌝ }
 {
-    let number = answer.number;
-    let delivery = answer.delivery;
-    let written = answer.written;
-    let read = answer.read;
+    let reply = answer.reply;
     let request = answer.asked;
-    let slot = crate::slots::tell(number, delivery, written, read);
+    let slot = crate::slots::tell(reply);
     let fields = asked_fields(request);
     ArbiterAnswer {
         slot: slot,

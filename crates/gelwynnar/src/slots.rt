@@ -8,7 +8,7 @@ ghost use lib.ListN.{length};
 ghost use Rattle.model.specs.Sizes.{paper};
 ghost use Rattle.model.specs.State.{margin};
 ghost use Rattle.model.specs.Slot.{slot};
-ghost use Rattle.layout.specs.Calls.{chosenIn, deliveryIn};
+ghost use Rattle.layout.specs.Calls.{chosenIn, deliveryIn, replyIn};
 ghost use Rattle.layout.specs.Lent.{given, found, left, countsGiven, countsFound, countsLeft};
 ghost use Rattle.layout.specs.Lengths.{headPlaces, cellPlaces};
 ghost use Rattle.layout.specs.Views.{Long, arrays, regsIn, stateIn};
@@ -16,7 +16,7 @@ ghost use Rattle.slot_in_place.specs.Says.{Ready};
 ghost use Rattle.slot_checked.specs.Says.{judgedNumber, LeaveSays};
 ghost use Rattle.run_words.specs.Words.{callOf};
 ghost use Rattle.run_checked.specs.Says.{RunCheckedSays};
-ghost use Rattle.gelwynnar.specs.Slots.{flag, queueTold, deliveryTold, valueTold, answerTold};
+ghost use Rattle.gelwynnar.specs.Slots.{flag, queueTold, deliveryTold, valueTold, told};
 ghost use Rattle.gelwynnar.specs.Slots.{OpenSays, SlotLentSays, IdleLentSays};
 use layout::CELL_PLACES;
 use layout::CellArray;
@@ -28,6 +28,7 @@ use layout::HEAD_PLACES;
 use layout::HeadArray;
 use layout::QUEUE_PLACES;
 use layout::RegArray;
+use layout::Reply;
 use layout::RingArray;
 use layout::TAIL_PLACES;
 use layout::TailArray;
@@ -97,15 +98,18 @@ fn chosen_fields(chosen: Chosen) -> ChosenFields
     }
 }
 
-// An answer as its fields.
-pub fn tell(number: u8, delivery: Delivery, written: Chosen, read: Chosen) -> Answer
-    ensures { λ r. ⌜ r ≡ answerTold number (deliveryIn delivery) (chosenIn written) (chosenIn read) ⌝ }
+// What a slot tells as fields.
+pub fn tell(reply: Reply) -> Answer
+    ensures { λ r. ⌜ r ≡ told (replyIn reply) ⌝ }
 {
+    let delivery = reply.delivery;
+    let written = reply.written;
+    let read = reply.read;
     let gave = delivery_fields(delivery);
     let wrote = chosen_fields(written);
     let fetched = chosen_fields(read);
     Answer {
-        number: number,
+        number: reply.number,
         dropped: 0,
         delivers: gave.delivers,
         writes: wrote.moves,
@@ -180,7 +184,7 @@ pub extern "C" fn gel_step(
 {
     let calls = [call];
     let mut answers = [0u64; 1];
-    let called = run_in_place::run_calls(
+    let reply = run_in_place::run_calls(
         tail,
         tails,
         head,
@@ -194,11 +198,7 @@ pub extern "C" fn gel_step(
         &mut answers,
         store,
     );
-    let number = called.number;
-    let delivery = called.delivery;
-    let written = called.written;
-    let read = called.read;
-    tell(number, delivery, written, read)
+    tell(reply)
 }
 
 // One slot, of any state and any store; the counts need not be those of the state, and are then.
@@ -239,12 +239,8 @@ pub extern "C" fn gel_slot(
         store.len(),
     );
     if number != 0 {
-        return tell(
-            number,
-            Delivery::NoDelivery,
-            Chosen::Nothing,
-            Chosen::Nothing,
-        );
+        let refused = layout::number_alone(number);
+        return tell(refused);
     }
     gel_step(
         regs,
@@ -346,11 +342,8 @@ pub extern "C" fn gel_idle(
     let next = stretch.regs;
     layout::put_regs(regs, next);
     let passed = stretch.passed;
-    let number = stretch.number;
-    let delivery = stretch.delivery;
-    let written = stretch.written;
-    let read = stretch.read;
-    let last = tell(number, delivery, written, read);
+    let reply = stretch.reply;
+    let last = tell(reply);
     Stretched {
         passed: passed,
         last: last,
@@ -372,7 +365,7 @@ pub extern "C" fn gel_judge<'a>(
     requires { ⌜ Long (given tail head cells firsts stored) ⌝ }
     ensures { λ r. ⌜ ((store : List ℕ) → length store ≡ «store_bytes»
         → r ≡ slot paper (stateIn (regsIn (now (regs .entry))) (found tail head cells firsts stored)) store
-        (callOf call) .number) ⌝ }
+        (callOf call) .reply .number) ⌝ }
 {
     let now = layout::regs_in(regs);
     let arrival = run_words::arrival_in(call);

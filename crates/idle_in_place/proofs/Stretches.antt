@@ -2,13 +2,12 @@
 -- ones leave.
 use mathlib.Core.Path.{_≡_, refl, ap, sym, _∙_, subst}
 use mathlib.Core.List.{List, [], _∷_, _++_}
-use mathlib.Core.Option.{none}
 use Prim.Native.Nat.{ℕ, _+_, _-_, _≤_}
 use native.Mathlib.Omega.{arith}
 use Rattle.model.specs.Basics.{All}
 use Rattle.model.specs.Sizes.{paper}
 use Rattle.model.specs.State.{State}
-use Rattle.model.specs.Slot.{Answer, slot}
+use Rattle.model.specs.Slot.{numberAlone, Answer, slot}
 use Rattle.model.specs.Calls.{idle, idles}
 use Rattle.model.specs.Lists.{Step, stepOf, run, lastState, lastStore}
 use Rattle.model.specs.Idle.{QuietStep, quietFirst, lastAnswer}
@@ -18,19 +17,12 @@ use Rattle.model.proofs.one_slot.Lists.{run-append}
 use Rattle.model.proofs.idle.QuietSlots.{PassedQuietly, idles-parts}
 use Rattle.model.proofs.idle.Stretch.{last-is-slot, last-leaves}
 use Rattle.layout.specs.Counts.{ByQueue}
-use Rattle.layout.specs.Calls.{chosenIn, deliveryIn}
+use Rattle.layout.specs.Calls.{replyIn}
 use Rattle.layout.specs.Views.{Arrays, stateIn}
 use Rattle.slot_in_place.specs.declared.Advanced.{Advanced}
 use Rattle.slot_in_place.specs.Says.{Ready, answerIn, AdvanceSays}
 use Rattle.idle_in_place.specs.declared.Passed.{Passed}
 use Rattle.idle_in_place.specs.Says.{PassSays}
-
--- An answer of 0 and nothing else.
-record Quietly (a : Answer) : Type 0 where
-  accepted : a .number ≡ 0
-  no-delivery : a .delivered ≡ none
-  no-write : a .written ≡ none
-  no-read : a .read ≡ none
 
 -- Where some idle slots are all quiet, so are all but the last, and so is the last.
 module _ (x : State) (store : List ℕ) (n : ℕ) (quiet : All QuietStep (run paper x store (idles n))) where
@@ -60,54 +52,34 @@ module _ (x : State) (store : List ℕ) (n : ℕ) (quiet : All QuietStep (run pa
       (λ h. all-first QuietStep first-steps (last-step ∷ []) (in-parts h))
 
   -- What the last answers, or none at all: 0 and nothing else.
-  last-quiet : Quietly (lastAnswer paper x store n)
+  last-quiet : lastAnswer paper x store n .reply ≡ numberAlone 0
   last-quiet =
       by-zero n
-      (λ e. subst (λ (k : ℕ). Quietly (lastAnswer paper x store k)) (sym e)
-      (record { accepted = refl; no-delivery = refl; no-write = refl; no-read = refl }))
-      (λ h. let q = all-behind QuietStep first-steps (last-step ∷ []) (in-parts h) .0 in
-      subst Quietly (sym (last-is-slot paper x store n h))
-      (record {
-        accepted = q .accepted;
-        no-delivery = q .no-delivery;
-        no-write = q .no-write;
-        no-read = q .no-read;
-      }))
+      (λ e. ap (λ (k : ℕ). lastAnswer paper x store k .reply) e)
+      (λ h. ap (λ (a : Answer). a .reply) (last-is-slot paper x store n h)
+      ∙ all-behind QuietStep first-steps (last-step ∷ []) (in-parts h) .0)
 
 -- A stretch of quiet slots alone.
 pub pass-is-quiet : {x : State} {store : List ℕ} {n : ℕ} {r : Passed} {m : Arrays} {counts : ByQueue}
     → r .passed ≡ n → r .passed ≡ quietFirst paper x store n
-    → r .number ≡ 0 → deliveryIn (r .delivery) ≡ none → chosenIn (r .written) ≡ none → chosenIn (r .read) ≡ none
+    → replyIn (r .reply) ≡ numberAlone 0
     → PassedQuietly paper x store (r .passed) (stateIn (r .regs) m)
     → Ready (r .regs) m counts store
     → PassSays x store n r m counts store
-pass-is-quiet {x} {store} {n} {r} all counted number silent unwritten unread p ready = record {
+pass-is-quiet {x} {store} {n} {r} all counted alone p ready = record {
   stretch = record {
     passed-is = omega (arith, all, counted);
     quiet-first = first-quiet x store (r .passed) (p .steps-quiet);
-    last-number = number ∙ sym (last .accepted);
-    last-delivered = silent ∙ sym (last .no-delivery);
-    last-written = unwritten ∙ sym (last .no-write);
-    last-read = unread ∙ sym (last .no-read);
+    last-is = alone ∙ sym (last-quiet x store (r .passed) (p .steps-quiet));
   };
   state-is = sym (p .state-is);
   store-is = sym (p .store-is);
   ready = ready;
 }
-  where
-    last : Quietly (lastAnswer paper x store (r .passed))
-    last = last-quiet x store (r .passed) (p .steps-quiet)
 
 -- Quiet slots and one more, which answers as the slot on what the quiet ones leave.
 abbrev onceMore : ℕ → Advanced → Passed
-onceMore k a = record {
-  regs = a .regs;
-  passed = k + 1;
-  number = a .number;
-  delivery = a .delivery;
-  written = a .written;
-  read = a .read;
-}
+onceMore k a = record { regs = a .regs; passed = k + 1; reply = a .reply }
 
 module _ {x y : State} {store : List ℕ} {n k : ℕ} {a : Advanced} {m : Arrays} {counts : ByQueue} {store′ : List ℕ}
     (more : k + 1 ≤ n) (counted : k ≡ quietFirst paper x store n) (p : PassedQuietly paper x store k y)
@@ -129,10 +101,7 @@ module _ {x y : State} {store : List ℕ} {n k : ℕ} {a : Advanced} {m : Arrays
     stretch = record {
       passed-is = omega (arith, more, counted);
       quiet-first = subst (λ (i : ℕ). All QuietStep (run paper x store (idles i))) before-last (p .steps-quiet);
-      last-number = ap (λ (b : Answer). b .number) last-is;
-      last-delivered = ap (λ (b : Answer). b .delivered) last-is;
-      last-written = ap (λ (b : Answer). b .written) last-is;
-      last-read = ap (λ (b : Answer). b .read) last-is;
+      last-is = ap (λ (b : Answer). b .reply) last-is;
     };
     state-is = ap (λ (b : Answer). b .state) last-is ∙ sym (last-leaves paper x store (k + 1) .0);
     store-is = ap (λ (b : Answer). b .store) last-is ∙ sym (last-leaves paper x store (k + 1) .1);

@@ -1,18 +1,18 @@
 -- What idle slots on lent arrays promise, by the model's own list of idle slots.
 use mathlib.Core.Path.{_≡_}
 use mathlib.Core.List.{List}
-use mathlib.Core.Option.{Option}
 use Prim.Native.Nat.{ℕ, _+_, _-_, _%_, _<_}
 use Rattle.model.specs.Basics.{All}
 use Rattle.model.specs.Sizes.{paper, lookahead}
-use Rattle.model.specs.State.{Byte, Cell, State}
+use Rattle.model.specs.State.{Cell, State}
+use Rattle.model.specs.Slot.{Reply}
 use Rattle.model.specs.Calls.{idles}
 use Rattle.model.specs.Lists.{run, lastState, lastStore}
 use Rattle.model.specs.Idle.{QuietStep, leadingEmpties, moveDue, quietOf, stretchLength, lastAnswer}
 use Rattle.layout.specs.Counts.{ByQueue}
 use Rattle.layout.specs.Entries.{countsIn, cellsIn}
 use Rattle.layout.specs.declared.Regs.{Regs}
-use Rattle.layout.specs.Calls.{chosenIn, deliveryIn}
+use Rattle.layout.specs.Calls.{replyIn}
 use Rattle.layout.specs.Views.{Arrays, sizesIn, stateIn}
 use Rattle.slot_in_place.specs.Says.{Ready}
 use Rattle.idle_quiet.specs.Says.{ShiftedBy}
@@ -38,20 +38,15 @@ pub record StretchSays (regs : Regs) (cells tails heads : List ℕ) (n : ℕ) (r
       → ShiftedBy (lookahead (sizesIn regs)) (r .count) cells cells′
 
 -- One stretch of at most n idle slots, as the model has them: how many passed, all but the last being quiet, and what
--- is given back of the last, or of none where n is 0.
-pub record Stretched (x : State) (store : List ℕ) (n passed number : ℕ) (delivered : Option Byte)
-    (written read : Option ℕ) : Type 0 where
+-- the last told, or none where n is 0.
+pub record Stretched (x : State) (store : List ℕ) (n passed : ℕ) (reply : Reply) : Type 0 where
   pub passed-is : passed ≡ stretchLength paper x store n
   pub quiet-first : All QuietStep (run paper x store (idles (passed - 1)))
-  pub last-number : number ≡ lastAnswer paper x store passed .number
-  pub last-delivered : delivered ≡ lastAnswer paper x store passed .delivered
-  pub last-written : written ≡ lastAnswer paper x store passed .written
-  pub last-read : read ≡ lastAnswer paper x store passed .read
+  pub last-is : reply ≡ lastAnswer paper x store passed .reply
 
 -- The same of what is handed back on lent arrays.
 abbrev pub StretchPassed : State → List ℕ → ℕ → Passed → Type 0
-StretchPassed x store n r =
-    Stretched x store n (r .passed) (r .number) (deliveryIn (r .delivery)) (chosenIn (r .written)) (chosenIn (r .read))
+StretchPassed x store n r = Stretched x store n (r .passed) (replyIn (r .reply))
 
 -- With state and store as those slots leave them, ready for the next one.
 pub record PassSays (x : State) (store : List ℕ) (n : ℕ) (r : Passed) (m′ : Arrays)

@@ -14,12 +14,11 @@ ghost use Rattle.layout.specs.Views.{sizesIn, stateIn};
 ghost use Rattle.slot_in_place.specs.Says.{Ready};
 ghost use Rattle.idle_in_place.specs.Says.{StretchSays, PassSays};
 use layout::CellArray;
-use layout::Chosen;
 use layout::CountArray;
-use layout::Delivery;
 use layout::HeadArray;
 use layout::REGS;
 use layout::Regs;
+use layout::Reply;
 use layout::RingArray;
 use layout::TailArray;
 
@@ -62,14 +61,11 @@ fn pass_quiet(
     }
 }
 
-// Where a stretch of idle slots leaves the registers, how many slots it had, and what the last of them answered.
+// Where a stretch of idle slots leaves the registers, how many slots it had, and what the last of them told.
 pub struct Passed {
     pub regs: Regs,
     pub passed: usize,
-    pub number: u8,
-    pub delivery: Delivery,
-    pub written: Chosen,
-    pub read: Chosen,
+    pub reply: Reply,
 }
 
 // One stretch of at most n idle slots: the quiet ones at once, and then, if n is not used up, one slot more.
@@ -108,13 +104,11 @@ pub fn pass(
     };
     let count = quiet.count;
     if count == n {
+        let quietly = layout::number_alone(0);
         return Passed {
             regs: turned,
             passed: count,
-            number: 0,
-            delivery: Delivery::NoDelivery,
-            written: Chosen::Nothing,
-            read: Chosen::Nothing,
+            reply: quietly,
         };
     }
     let passed = count + 1;
@@ -122,7 +116,7 @@ pub fn pass(
     layout::put_regs(&mut lent, turned);
     let calls = [0u64; 1];
     let mut answers = [0u64; 1];
-    let slot = run_in_place::run_calls(
+    let reply = run_in_place::run_calls(
         tail,
         tails,
         head,
@@ -137,15 +131,9 @@ pub fn pass(
         store,
     );
     let next = layout::regs_in(&lent);
-    let delivery = slot.delivery;
-    let written = slot.written;
-    let read = slot.read;
     Passed {
         regs: next,
         passed: passed,
-        number: slot.number,
-        delivery: delivery,
-        written: written,
-        read: read,
+        reply: reply,
     }
 }

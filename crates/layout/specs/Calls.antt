@@ -1,7 +1,8 @@
--- What the enums of a call and of an answer say in the model's terms.
+-- What the values of a call and of an answer say in the model's terms.
 use mathlib.Core.Option.{Option, some, none}
 use Prim.Native.Nat.{ℕ}
 use Rattle.model.specs.State.{Byte, byte}
+use Rattle.model.specs.Slot as model
 use Rattle.model.specs.Slot.{Call}
 use Rattle.layout.specs.declared.Chosen.{Chosen}
 use Rattle.layout.specs.declared.Chosen.the-variants.{Queue, Nothing}
@@ -11,6 +12,7 @@ use Rattle.layout.specs.declared.Request.{Request}
 use Rattle.layout.specs.declared.Request.the-variants.{Asks, NoRequest}
 use Rattle.layout.specs.declared.Delivery.{Delivery}
 use Rattle.layout.specs.declared.Delivery.the-variants.{Gives, NoDelivery}
+use Rattle.layout.specs.declared.Reply.{Reply}
 
 abbrev pub arrivalIn : Arrival → Option Byte
 arrivalIn (Comes q v) = some (byte q v)
@@ -30,3 +32,13 @@ chosenIn Nothing = none
 
 abbrev pub callIn : Arrival → Request → Call
 callIn arrival request = record { arrival = arrivalIn arrival; request = requestIn request }
+
+abbrev pub replyIn : Reply → model.Reply
+replyIn r = record {
+  number = r .number;
+  arrivalNumber = r .«arrival_number»;
+  requestNumber = r .«request_number»;
+  delivered = deliveryIn (r .delivery);
+  written = chosenIn (r .written);
+  read = chosenIn (r .read);
+}

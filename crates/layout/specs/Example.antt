@@ -15,8 +15,9 @@ use Rattle.layout.specs.declared.Chosen.the-variants.{Queue, Nothing}
 use Rattle.layout.specs.declared.Arrival.the-variants.{Comes, NoArrival}
 use Rattle.layout.specs.declared.Request.the-variants.{Asks, NoRequest}
 use Rattle.layout.specs.declared.Delivery.the-variants.{Gives, NoDelivery}
+use Rattle.layout.specs.declared.Reply.{Reply}
 use Rattle.layout.specs.declared.Regs.{Regs}
-use Rattle.layout.specs.Calls.{arrivalIn, requestIn, deliveryIn, chosenIn, callIn}
+use Rattle.layout.specs.Calls.{arrivalIn, requestIn, deliveryIn, chosenIn, callIn, replyIn}
 use Rattle.layout.specs.Counts.{ByQueue, CountsAre, Tallies}
 use Rattle.layout.specs.Views.{Arrays, Long, stateIn}
 use Rattle.layout.specs.Lent.{Lent, found, left, countsFound, countsLeft}
@@ -54,6 +55,17 @@ exampleState =
     (empty ∷ held 1 0x69 ∷ owed 2 ∷ owed 1 ∷ [])
     (ring 1 2 ∷ ring 0 0 ∷ ring 3 1 ∷ [])
     5 6 1
+
+-- What no slot tells, each number another one.
+abbrev pub exampleReply : Reply
+exampleReply = record {
+  number = 1;
+  «arrival_number» = 2;
+  «request_number» = 3;
+  delivery = Gives 4 5;
+  written = Queue 6;
+  read = Queue 7;
+}
 
 -- The counts by queue beside that state, in arrays of 64.
 abbrev pub exampleCounts : ByQueue
@@ -93,6 +105,14 @@ pub record ExampleReads : Type 0 where
   pub no-delivery : deliveryIn NoDelivery ≡ none
   pub chosen-is : chosenIn (Queue 2) ≡ some 2
   pub none-chosen : chosenIn Nothing ≡ none
+  pub reply-is : replyIn exampleReply ≡ record {
+    number = 1;
+    arrivalNumber = 2;
+    requestNumber = 3;
+    delivered = some (byte 4 5);
+    written = some 6;
+    read = some 7;
+  }
   pub call-is : callIn (Comes 1 65) (Asks 2) ≡ both 1 65 2
   pub call-idle : callIn NoArrival NoRequest ≡ idle
   pub counts-are : Tallies exampleState exampleCounts

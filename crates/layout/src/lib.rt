@@ -1,6 +1,8 @@
 // How a state lies in registers and arrays, and what a slot is asked and answers: values, types and lengths that the
 // crates above share.
 ghost use mathlib.Core.Path.{_≡_};
+ghost use Rattle.model.specs.Slot.{numberAlone};
+ghost use Rattle.layout.specs.Calls.{replyIn};
 ghost use Rattle.layout.specs.Example.{ExampleReads};
 ghost use Rattle.layout.specs.Views.{regsIn};
 
@@ -26,6 +28,31 @@ pub enum Delivery {
 pub enum Chosen {
     Queue(u8),
     Nothing,
+}
+
+// What a slot tells: the paper's number or 0, a number for each of its halves, which request 2.5 will give, the delivery,
+// the queues written and read.
+pub struct Reply {
+    pub number: u8,
+    pub arrival_number: u8,
+    pub request_number: u8,
+    pub delivery: Delivery,
+    pub written: Chosen,
+    pub read: Chosen,
+}
+
+// A number, and nothing else to tell.
+pub fn number_alone(number: u8) -> Reply
+    ensures { λ r. ⌜ replyIn r ≡ numberAlone number ⌝ }
+{
+    Reply {
+        number: number,
+        arrival_number: 0,
+        request_number: 0,
+        delivery: Delivery::NoDelivery,
+        written: Chosen::Nothing,
+        read: Chosen::Nothing,
+    }
 }
 
 // A cell is kind × 65,536 + queue × 256 + value: below `HELD` it is empty, from `OWED` on it is Owed.

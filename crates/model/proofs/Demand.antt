@@ -103,7 +103,7 @@ module _ (limits : Limits) where
   never : (bad : ℕ) → 1 ≤ bad → bad ≤ 3 → (x : State) (store : List ℕ) (call : Call) (a : Answer)
       → (3 ≡ bad → not (keeps (full limits) x) ≡ false)
       → (2 ≡ bad → ltb (length store) (storeBytes (x .sizes)) ≡ false)
-      → RefusedOrAccepted (full limits) x store call a → a .number ≡ bad → ⊥
+      → RefusedOrAccepted (full limits) x store call a → a .reply .number ≡ bad → ⊥
   never bad pos low x store call a three two (was-accepted f) e = omega (arith, e)
   never bad pos low x store call a three two (was-refused n f) e =
       not-first bad (refusals (full limits) x store call) pos (
@@ -153,10 +153,10 @@ every-chain limits s store steps last e c = record {
       subst (λ (z : Sizes). CachesHold z (stepOf y st call (noting noted a))) f
       (call-caches limits y st call a noted g t));
   no-miss = all NoMiss (λ y st call a noted g f l t. no-miss limits y st call a noted g t);
-  no-3 = all (λ (step : Step). step .number ≡ 3 → ⊥) (λ y st call a noted g f l t.
+  no-3 = all (λ (step : Step). step .reply .number ≡ 3 → ⊥) (λ y st call a noted g f l t.
       never limits 3 (omega arith) (omega arith) y st call a
       (λ h. ap not (keeps-holds (full limits) y (g .kept))) (λ h. absurd (omega (arith, h))) t);
-  no-2 = λ long. all (λ (step : Step). step .number ≡ 2 → ⊥) (λ y st call a noted g f l t.
+  no-2 = λ long. all (λ (step : Step). step .reply .number ≡ 2 → ⊥) (λ y st call a noted g f l t.
       never limits 2 (omega arith) (omega arith) y st call a (λ h. absurd (omega (arith, h)))
       (λ h. le-ltb (length st) (storeBytes (y .sizes)) (rw f (omega (arith, l)))) t);
 }

@@ -116,10 +116,10 @@ module _ (design : Design) where
               f .judged .kept .tail-mark,
             )
 
-    no-read : slot design x store call .read ≡ none → slot design x store call .state .headMark ≡ x .headMark
+    no-read : slot design x store call .reply .read ≡ none → slot design x store call .state .headMark ≡ x .headMark
     no-read e = go (slot design x store call) (outcome design x store call) e
       where
-        go : (a : Answer) → RefusedOrAccepted design x store call a → a .read ≡ none
+        go : (a : Answer) → RefusedOrAccepted design x store call a → a .reply .read ≡ none
             → a .state .headMark ≡ x .headMark
         go a (was-refused n r) e = refl
         go a (was-accepted f) e =
@@ -130,12 +130,12 @@ module _ (design : Design) where
               f .judged .kept .head-mark,
             )
 
-    refused : (slot design x store call .number ≡ 0 → ⊥)
+    refused : (slot design x store call .reply .number ≡ 0 → ⊥)
         → (slot design x store call .state .tailMark ≡ x .tailMark)
         × (slot design x store call .state .headMark ≡ x .headMark)
     refused = go (slot design x store call) (outcome design x store call)
       where
-        go : (a : Answer) → RefusedOrAccepted design x store call a → (a .number ≡ 0 → ⊥)
+        go : (a : Answer) → RefusedOrAccepted design x store call a → (a .reply .number ≡ 0 → ⊥)
             → (a .state .tailMark ≡ x .tailMark) × (a .state .headMark ≡ x .headMark)
         go a (was-refused n r) other = (refl, refl)
         go a (was-accepted f) other = absurd (other refl)

@@ -51,17 +51,10 @@ lastAfter (suc n) request last = last
 
 -- An answer with this queue noted as the last one asked, and all else as it was.
 abbrev pub noting : ℕ → Answer → Answer
-noting last a = record {
-  number = a .number;
-  delivered = a .delivered;
-  written = a .written;
-  read = a .read;
-  state = withLastAsked last (a .state);
-  store = a .store;
-}
+noting last a = record { reply = a .reply; state = withLastAsked last (a .state); store = a .store }
 
 -- One slot in which the arbiter chooses: the slot of its call, and the last one asked.
 abbrev pub arbiterSlot : Design → State → List ℕ → Option Byte → Answer
 arbiterSlot design x store arrival =
     let a = slot design x store (arbiterCall x arrival) in
-    noting (lastAfter (a .number) (choice x arrival) (x .lastAsked)) a
+    noting (lastAfter (a .reply .number) (choice x arrival) (x .lastAsked)) a

@@ -89,13 +89,15 @@ isHeld q v (owed p) = false
 abbrev youngestOf : List Cell → Cell
 youngestOf cs = getD cs (length cs - 1) empty
 
--- A slot's answer has this number and this delivery, and these are the queues written and read.
+-- A slot's answer has this number, none for either half, and this delivery, and these are the queues written and read.
 abbrev answers : ℕ → Option Byte → Option ℕ → Option ℕ → Answer → Bool
 answers number delivered written read a = allTrue (
-    eqb (a .number) number ∷
-    sameByte (a .delivered) delivered ∷
-    same (a .written) written ∷
-    same (a .read) read ∷ [])
+    eqb (a .reply .number) number ∷
+    eqb (a .reply .arrivalNumber) 0 ∷
+    eqb (a .reply .requestNumber) 0 ∷
+    sameByte (a .reply .delivered) delivered ∷
+    same (a .reply .written) written ∷
+    same (a .reply .read) read ∷ [])
 
 -- An answer is this outcome with this delivery. A refused slot hands its state back as given, so that the cell that was
 -- to leave is there still.
@@ -123,7 +125,7 @@ allMeet design x store ((arbiter arrival then outcome asks q last n) ∷ expecte
     let a = arbiterSlot design x store arrival in
     allTrue (
     meets outcome none a ∷
-    same (lists.taken (a .number) (choice x arrival)) q ∷
+    same (lists.taken (a .reply .number) (choice x arrival)) q ∷
     eqb (a .state .lastAsked) n ∷
     allMeet design (a .state) (a .store) expected ∷ [])
 

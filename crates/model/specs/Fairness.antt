@@ -52,20 +52,20 @@ pub record ArbiterSays (design : Design) : Type 0 where
       (x : State) (y : Byte) → isFull x (y .queue) ≡ false → canBeAsked x (some y) (y .queue) ≡ true
   -- A queue that is chosen can be asked: 7 never comes, and neither does 6.
   pub never-7 :
-      (x : State) (store : List ℕ) (arrival : Option Byte) → arbiterSlot design x store arrival .number ≡ 7 → ⊥
+      (x : State) (store : List ℕ) (arrival : Option Byte) → arbiterSlot design x store arrival .reply .number ≡ 7 → ⊥
   pub never-6 :
-      (x : State) (store : List ℕ) (arrival : Option Byte) → arbiterSlot design x store arrival .number ≡ 6 → ⊥
+      (x : State) (store : List ℕ) (arrival : Option Byte) → arbiterSlot design x store arrival .reply .number ≡ 6 → ⊥
   -- "The last one asked": it moves where the arbiter asked and the slot is accepted. "A refused slot or a caller's own
   -- request leaves it unchanged", and so does a slot without a request.
   pub asked-is-noted :
       (x : State) (store : List ℕ) (arrival : Option Byte) (q : ℕ)
-      → arbiterSlot design x store arrival .number ≡ 0 → choice x arrival ≡ some q
+      → arbiterSlot design x store arrival .reply .number ≡ 0 → choice x arrival ≡ some q
       → arbiterSlot design x store arrival .state .lastAsked ≡ q
   pub none-leaves-it :
       (x : State) (store : List ℕ) (arrival : Option Byte) → choice x arrival ≡ none
       → arbiterSlot design x store arrival .state .lastAsked ≡ x .lastAsked
   pub refused-leaves-it :
-      (x : State) (store : List ℕ) (arrival : Option Byte) → (arbiterSlot design x store arrival .number ≡ 0 → ⊥)
+      (x : State) (store : List ℕ) (arrival : Option Byte) → (arbiterSlot design x store arrival .reply .number ≡ 0 → ⊥)
       → arbiterSlot design x store arrival .state ≡ x
   pub own-leaves-it :
       (x : State) (store : List ℕ) (call : Call) → slot design x store call .state .lastAsked ≡ x .lastAsked
@@ -123,7 +123,7 @@ pub record Fair (limits : Limits) : Type 0 where
   -- The premise holds of every queue that has an unrequested byte.
   pub has-a-front :
       (x : State) (store : List ℕ) (arrival : Option Byte) (arrivals : List (Option Byte)) (q : ℕ)
-      → arbiterSlot (full limits) x store arrival .number ≡ 0 → q < x .sizes .Q → canBeAsked x arrival q ≡ true
+      → arbiterSlot (full limits) x store arrival .reply .number ≡ 0 → q < x .sizes .Q → canBeAsked x arrival q ≡ true
       → (v : ℕ) × Front x store (accepted (arbiterRun (full limits) x store (arrival ∷ arrivals))) q v
   pub later-too :
       (x : State) (store : List ℕ) (arrivals more : List (Option Byte)) → keeps (full limits) x ≡ true

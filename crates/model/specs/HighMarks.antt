@@ -52,9 +52,9 @@ pub record MarksExact (design : Design) : Type 0 where
       (x : State) (store : List ℕ) (call : Call) → call .arrival ≡ none
       → slot design x store call .state .tailMark ≡ x .tailMark
   pub no-read :
-      (x : State) (store : List ℕ) (call : Call) → slot design x store call .read ≡ none
+      (x : State) (store : List ℕ) (call : Call) → slot design x store call .reply .read ≡ none
       → slot design x store call .state .headMark ≡ x .headMark
   pub refused :
-      (x : State) (store : List ℕ) (call : Call) → (slot design x store call .number ≡ 0 → ⊥)
+      (x : State) (store : List ℕ) (call : Call) → (slot design x store call .reply .number ≡ 0 → ⊥)
       → (slot design x store call .state .tailMark ≡ x .tailMark)
       × (slot design x store call .state .headMark ≡ x .headMark)

@@ -10,7 +10,7 @@ use lib.ListN.{length, drop, replicate, getD}
 use Rattle.model.specs.Basics.{choose}
 use Rattle.model.specs.Sizes.{Sizes, Design, lookahead}
 use Rattle.model.specs.State.{Cell, empty, held, owed, State, withPhase, withCells, tailBytes, headBytes}
-use Rattle.model.specs.Slot.{fullest, refillQueue, refusal, Answer, slot}
+use Rattle.model.specs.Slot.{fullest, refillQueue, refusal, numberAlone, Answer, slot}
 use Rattle.model.specs.Calls.{idle, idles}
 use Rattle.model.specs.Lists.{Step, lastState, lastStore}
 
@@ -41,11 +41,8 @@ pub record AllQuiet (x : State) : Type 0 where
   pub none-to-write : fullest (x .sizes .b) (tailBytes x) (x .sizes .Q) ≡ none
 
 -- A slot of a list that was accepted, delivered nothing and moved nothing.
-pub record QuietStep (step : Step) : Type 0 where
-  pub accepted : step .number ≡ 0
-  pub no-delivery : step .delivered ≡ none
-  pub no-write : step .written ≡ none
-  pub no-read : step .read ≡ none
+abbrev pub QuietStep : Step → Type 0
+QuietStep step = step .reply ≡ numberAlone 0
 
 -- How many cells are empty before the first that is not.
 abbrev pub leadingEmpties : List Cell → ℕ
@@ -87,7 +84,6 @@ stretchLength design x store n = min n (quietFirst design x store n + 1)
 
 -- What the last of n idle slots answers. No slot at all answers 0 and nothing else, and leaves all as it was.
 abbrev pub lastAnswer : Design → State → List ℕ → ℕ → Answer
-lastAnswer design x store zero =
-    record { number = 0; delivered = none; written = none; read = none; state = x; store = store }
+lastAnswer design x store zero = record { reply = numberAlone 0; state = x; store = store }
 lastAnswer design x store (suc n) =
     slot design (lastState design x store (idles n)) (lastStore design x store (idles n)) idle

@@ -8,18 +8,15 @@ use lib.ListN.{length, take, getElem?}
 use Rattle.model.specs.Basics.{choose, tabulate}
 use Rattle.model.specs.Sizes.{Sizes, Design}
 use Rattle.model.specs.State.{Byte, State, fresh, valuesOf}
-use Rattle.model.specs.Slot.{Call, asByte, arriving, swaps, joined, asked, refilled, Answer, slot}
+use Rattle.model.specs.Slot.{Call, asByte, arriving, swaps, joined, asked, refilled, Reply, Answer, slot}
 
--- One slot of a list: the number that it answers (0, or a refusal), what it took of its arrival and its request, its
--- delivery and moves, state and store as it ends, the tail's fill "just after the arrival joins it" and the head's
--- "just after the read".
+-- One slot of a list: what it told (0 or a refusal's number, its delivery and its moves), what it took of its arrival
+-- and its request, state and store as it ends, the tail's fill "just after the arrival joins it" and the head's "just
+-- after the read".
 pub record Step : Type 0 where
-  pub number : ℕ
+  pub reply : Reply
   pub arrival : Option Byte
   pub request : Option ℕ
-  pub delivered : Option Byte
-  pub written : Option ℕ
-  pub read : Option ℕ
   pub state : State
   pub store : List ℕ
   pub joinedFill : ℕ
@@ -43,16 +40,13 @@ readFillOf (suc n) x store call = length (x .head)
 
 abbrev pub stepOf : State → List ℕ → Call → Answer → Step
 stepOf x store call a = record {
-  number = a .number;
-  arrival = taken (a .number) (call .arrival);
-  request = taken (a .number) (call .request);
-  delivered = a .delivered;
-  written = a .written;
-  read = a .read;
+  reply = a .reply;
+  arrival = taken (a .reply .number) (call .arrival);
+  request = taken (a .reply .number) (call .request);
   state = a .state;
   store = a .store;
-  joinedFill = joinedFillOf (a .number) x call;
-  readFill = readFillOf (a .number) x store call;
+  joinedFill = joinedFillOf (a .reply .number) x call;
+  readFill = readFillOf (a .reply .number) x store call;
 }
 
 -- Demand 3: "each slot getting state and store exactly as the one before left them"; "a refused slot stays in the
@@ -87,12 +81,12 @@ listOf design s store calls = run design (fresh design s) store calls
 -- "Accepted slots are numbered from 0 in their order, and a refused one has no number": slot t is place t here.
 abbrev pub accepted : List Step → List Step
 accepted [] = []
-accepted (step ∷ steps) = choose (eqb (step .number) 0) (step ∷ accepted steps) (accepted steps)
+accepted (step ∷ steps) = choose (eqb (step .reply .number) 0) (step ∷ accepted steps) (accepted steps)
 
 -- Of accepted slots: what each delivers, the arrivals of a queue in order, whether a request is of q (1) or not (0),
 -- how many requests of a queue, the request of slot t.
 abbrev pub deliveries : List Step → List (Option Byte)
-deliveries slots = map (λ step. step .delivered) slots
+deliveries slots = map (λ step. step .reply .delivered) slots
 
 abbrev pub arrivalsOf : ℕ → List Step → List ℕ
 arrivalsOf q [] = []

@@ -271,36 +271,50 @@ refusals design x store call =
 abbrev pub refusal : Design → State → List ℕ → Call → ℕ
 refusal design x store call = firstRefusal (refusals design x store call)
 
--- "An accepted slot answers 0 with the delivery, the queue written and the queue read, or none for each." The state
--- goes into a slot and is handed back by it, and so is the store.
-pub record Answer : Type 0 where
+-- What a slot tells: "An accepted slot answers 0 with the delivery, the queue written and the queue read, or none for
+-- each." `arrivalNumber` and `requestNumber` are numbers of the two halves, for request 2.5; no half has one yet.
+pub record Reply : Type 0 where
   pub number : ℕ
+  pub arrivalNumber : ℕ
+  pub requestNumber : ℕ
   pub delivered : Option Byte
   pub written : Option ℕ
   pub read : Option ℕ
+
+-- A number, and nothing else to tell.
+abbrev pub numberAlone : ℕ → Reply
+numberAlone n = record {
+  number = n;
+  arrivalNumber = 0;
+  requestNumber = 0;
+  delivered = none;
+  written = none;
+  read = none;
+}
+
+-- The state goes into a slot and is handed back by it, and so is the store.
+pub record Answer : Type 0 where
+  pub reply : Reply
   pub state : State
   pub store : List ℕ
 
 abbrev pub accept : State → List ℕ → Call → Answer
 accept x store call = record {
-  number = 0;
-  delivered = delivery x;
-  written = queueToWrite (asked x call);
-  read = queueToRead (wrote x call);
+  reply = record {
+    number = 0;
+    arrivalNumber = 0;
+    requestNumber = 0;
+    delivered = delivery x;
+    written = queueToWrite (asked x call);
+    read = queueToRead (wrote x call);
+  };
   state = afterPhase (refilled x store call);
   store = wroteStore x store call;
 }
 
 -- "A refused slot did not happen: no cell moves, no phase passes." State and store are as given.
 abbrev pub refuse : ℕ → State → List ℕ → Answer
-refuse n x store = record {
-  number = n;
-  delivered = none;
-  written = none;
-  read = none;
-  state = x;
-  store = store;
-}
+refuse n x store = record { reply = numberAlone n; state = x; store = store }
 
 abbrev pub answer : ℕ → State → List ℕ → Call → Answer
 answer zero x store call = accept x store call

@@ -67,12 +67,9 @@ infix 70 number_took_and_delivered_wrote_read_fills_and_store_state_
 abbrev number_took_and_delivered_wrote_read_fills_and_store_state_ :
     ℕ → Option Byte → Option ℕ → Option Byte → Option ℕ → Option ℕ → ℕ → ℕ → List ℕ → State → Step
 number n took ar and re delivered d wrote w read r fills t and h store st state s = record {
-  number = n;
+  reply = record { number = n; arrivalNumber = 0; requestNumber = 0; delivered = d; written = w; read = r };
   arrival = ar;
   request = re;
-  delivered = d;
-  written = w;
-  read = r;
   state = s;
   store = st;
   joinedFill = t;

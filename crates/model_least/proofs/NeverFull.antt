@@ -36,10 +36,10 @@ module _ (limits : Limits) (x : State) (store : List ℕ) (call : Call) (kept : 
   abbrev most : ℕ
   most = x .sizes .Q * (x .sizes .K * x .sizes .b)
 
-  joined-bounded : joinedFillOf (slot (full limits) x store call .number) x call ≤ most
+  joined-bounded : joinedFillOf (slot (full limits) x store call .reply .number) x call ≤ most
   joined-bounded = go (slot (full limits) x store call) (outcome (full limits) x store call)
     where
-      go : (a : Answer) → RefusedOrAccepted (full limits) x store call a → joinedFillOf (a .number) x call ≤ most
+      go : (a : Answer) → RefusedOrAccepted (full limits) x store call a → joinedFillOf (a .reply .number) x call ≤ most
       go a (was-refused n e) = tail-bounded _ x (kept .within)
       go a (was-accepted f) =
           by-test (swaps x (call .arrival) (call .request))
@@ -66,7 +66,7 @@ module _ (limits : Limits) (s : Sizes) (one : s .K ≡ 1) (few : s .Q < s .b) wh
   never x store [] kept same = refl
   never x store (call ∷ calls) kept same =
       neither _ _
-      (ne-eqb (joinedFillOf (slot (full limits) x store call .number) x call) (tailSize s)
+      (ne-eqb (joinedFillOf (slot (full limits) x store call .reply .number) x call) (tailSize s)
       (λ e. omega (
         arith,
         e,

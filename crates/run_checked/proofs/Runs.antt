@@ -3,7 +3,6 @@
 use mathlib.Core.Path.{_≡_, refl, ap, sym, _∙_, subst}
 use mathlib.Core.Bool.{true}
 use mathlib.Core.List.{List, [], _∷_, _++_, map}
-use mathlib.Core.Option.{none}
 use Prim.Native.Nat.{ℕ, _≤_}
 use native.Mathlib.Nat.{min-le-left, min-le-right}
 use native.Mathlib.Omega.{arith}
@@ -11,7 +10,7 @@ use lib.ListN.{length, take, drop, replicate, length-map}
 use lib.Seq.{length-take-le}
 use Rattle.model.specs.Sizes.{paper}
 use Rattle.model.specs.State.{State, keeps}
-use Rattle.model.specs.Slot.{Call, Answer, refuse, slot}
+use Rattle.model.specs.Slot.{Call, numberAlone, Answer, refuse, slot}
 use Rattle.model.specs.Lists.{stepOf, run, lastState, lastStore}
 use Rattle.run_words.specs.Words.{callOf, answerWord}
 use Rattle.run_in_place.specs.Says.{wordOf, RunInPlaceSays}
@@ -20,7 +19,7 @@ use Rattle.run_checked.specs.Says.{runLength, callsRun, RunCheckedSays}
 
 -- The word of a refusal.
 abbrev pub refusalWord : ℕ → ℕ
-refusalWord n = answerWord n none none none
+refusalWord n = answerWord (numberAlone n)
 
 -- A run each of whose slots is refused alike.
 pub record RefusedRun (n : ℕ) (x : State) (store : List ℕ) (calls : List Call) : Type 0 where

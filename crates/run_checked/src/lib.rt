@@ -10,9 +10,7 @@ ghost use Rattle.slot_checked.specs.Says.{judgedNumber, LeaveSays};
 ghost use Rattle.run_checked.specs.Says.{RunCheckedSays, IdleCheckedSays};
 use idle_in_place::Passed;
 use layout::CellArray;
-use layout::Chosen;
 use layout::CountArray;
-use layout::Delivery;
 use layout::HeadArray;
 use layout::RegArray;
 use layout::Regs;
@@ -73,12 +71,8 @@ pub fn run(
         store.len(),
     );
     if number != 0 {
-        let word = run_words::answer_word(
-            number,
-            Delivery::NoDelivery,
-            Chosen::Nothing,
-            Chosen::Nothing,
-        );
+        let refused = layout::number_alone(number);
+        let word = run_words::answer_word(refused);
         fill(answers, n, word);
         return number;
     }
@@ -133,23 +127,19 @@ pub fn idle(
         store.len(),
     );
     if n == 0 {
+        let none = layout::number_alone(0);
         return Passed {
             regs: regs,
             passed: 0,
-            number: 0,
-            delivery: Delivery::NoDelivery,
-            written: Chosen::Nothing,
-            read: Chosen::Nothing,
+            reply: none,
         };
     }
     if number != 0 {
+        let refused = layout::number_alone(number);
         return Passed {
             regs: regs,
             passed: 1,
-            number: number,
-            delivery: Delivery::NoDelivery,
-            written: Chosen::Nothing,
-            read: Chosen::Nothing,
+            reply: refused,
         };
     }
     idle_in_place::pass(

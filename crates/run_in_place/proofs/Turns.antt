@@ -15,8 +15,9 @@ use Rattle.model.proofs.one_slot.Rules.{keeps-facts}
 use Rattle.model.proofs.one_slot.Kept.{slot-kept}
 use Rattle.model.proofs.one_slot.Lists.{last-append, last-store-append, run-append, run-length}
 use Rattle.layout.specs.Counts.{ByQueue}
-use Rattle.layout.specs.Calls.{chosenIn, arrivalIn, requestIn, deliveryIn, callIn}
+use Rattle.layout.specs.Calls.{arrivalIn, requestIn, callIn, replyIn}
 use Rattle.layout.specs.declared.Regs.{Regs}
+use Rattle.layout.specs.declared.Reply.{Reply}
 use Rattle.layout.specs.declared.Arrival.{Arrival}
 use Rattle.layout.specs.declared.Request.{Request}
 use Rattle.layout.specs.Views.{Arrays, stateIn}
@@ -24,7 +25,6 @@ use Rattle.slot_in_place.specs.Says.{Ready, answerIn, AdvanceSays, AsGiven}
 use Rattle.run_words.specs.Words.{callOf, answerWord, nearByte, nearQueue}
 use Rattle.run_words.proofs.Nearest.{read-slot}
 use Rattle.slot_in_place.specs.declared.Advanced.{Advanced}
-use Rattle.run_in_place.specs.declared.Answered.{Answered}
 use Rattle.run_in_place.specs.declared.Called.{Called}
 use Rattle.run_in_place.specs.Says.{wordOf, advancedIn, advancedTo, CalledSays, OneSlotSays}
 use Rattle.run_in_place.specs.Says.{OneCallSays, RunInPlaceSays}
@@ -137,11 +137,11 @@ pub called : {x : State} {store : List ℕ} (call : Call) (arrival : Arrival) (r
     {counts : ByQueue} {store′ : List ℕ} (r : Called)
     → AdvanceSays x store (callIn arrival request) (advancedIn r) m counts store′
     → arrivalIn arrival ≡ nearByte (call .arrival) → requestIn request ≡ nearQueue (call .request)
-    → r .word ≡ answerWord (r .number) (deliveryIn (r .delivery)) (chosenIn (r .written)) (chosenIn (r .read))
+    → r .word ≡ answerWord (replyIn (r .reply))
     → CalledSays x store call r m counts store′
 called {x} {store} call arrival request {m} {counts} {store′} r s ea er ew = record {
   slot-is = record { answer-is = answer; ready = s .ready };
-  word-is = ew ∙ ap (λ (b : Answer). answerWord (b .number) (b .delivered) (b .written) (b .read)) answer;
+  word-is = ew ∙ ap (λ (b : Answer). answerWord (b .reply)) answer;
 }
   where
     answer : answerIn (advancedIn r) m store′ ≡ slot paper x store call
@@ -191,7 +191,7 @@ lent-ready put {m} {counts} {store} ready = subst (λ (n : Regs). Ready n m coun
 
 -- A run of one call leaves its registers in their array.
 pub call-put : {regs : Regs} {m : Arrays} {store : List ℕ} {calls : List Call} {last lent : Regs} → lent ≡ last
-    → (r : Answered) {m′ : Arrays} {counts : ByQueue} {store′ : List ℕ}
+    → (r : Reply) {m′ : Arrays} {counts : ByQueue} {store′ : List ℕ}
     → OneCallSays regs m store calls (advancedTo last r) m′ counts store′
     → OneCallSays regs m store calls (advancedTo lent r) m′ counts store′
 call-put {regs} {m} {store} {calls} put r {m′} {counts} {store′} one =
@@ -200,7 +200,7 @@ call-put {regs} {m} {store} {calls} put r {m′} {counts} {store′} one =
 -- A caller that holds the registers by value lends an array of them, and reads them there behind the run. A run of one
 -- word is then the slot of the call that the word stands for.
 pub ran-call : {lent regs lent′ regs′ : Regs} → lent ≡ regs → regs′ ≡ lent′ → {m : Arrays} {store : List ℕ} (word : ℕ)
-    {call : Call} (r : Answered) {m′ : Arrays} {counts : ByQueue} {store′ : List ℕ} → callOf word ≡ call
+    {call : Call} (r : Reply) {m′ : Arrays} {counts : ByQueue} {store′ : List ℕ} → callOf word ≡ call
     → OneCallSays lent m store (callOf word ∷ []) (advancedTo lent′ r) m′ counts store′
     → AdvanceSays (stateIn regs m) store call (advancedTo regs′ r) m′ counts store′
 ran-call {lent} {regs} {lent′} put read {m} {store} word {call} r {m′} {counts} {store′} is-call one =

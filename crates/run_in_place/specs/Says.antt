@@ -9,44 +9,30 @@ use Rattle.model.specs.Slot.{Call, slot}
 use Rattle.model.specs.Lists.{Step, run, lastState, lastStore}
 use Rattle.layout.specs.Counts.{ByQueue}
 use Rattle.layout.specs.declared.Regs.{Regs}
+use Rattle.layout.specs.declared.Reply.{Reply}
 use Rattle.layout.specs.Views.{Arrays, stateIn}
 use Rattle.slot_in_place.specs.declared.Advanced.{Advanced}
 use Rattle.slot_in_place.specs.Says.{AdvanceSays, AsGiven}
 use Rattle.run_words.specs.Words.{answerWord}
-use Rattle.run_in_place.specs.declared.Answered.{Answered}
 use Rattle.run_in_place.specs.declared.Called.{Called}
 
 -- A slot's answer as one number.
 abbrev pub wordOf : Step → ℕ
-wordOf step = answerWord (step .number) (step .delivered) (step .written) (step .read)
+wordOf step = answerWord (step .reply)
 
 -- What a slot of a run hands back beside its word, as the slot in place does.
 abbrev pub advancedIn : Called → Advanced
-advancedIn r = record {
-  regs = r .regs;
-  number = r .number;
-  delivery = r .delivery;
-  written = r .written;
-  read = r .read;
-}
+advancedIn r = record { regs = r .regs; reply = r .reply }
 
 -- One slot of a run: the slot in place, and its answer as one number.
 pub record CalledSays (x : State) (store : List ℕ) (call : Call) (r : Called) (m : Arrays)
     (counts : ByQueue) (store′ : List ℕ) : Type 0 where
   pub slot-is : AdvanceSays x store call (advancedIn r) m counts store′
-  pub word-is : r .word
-      ≡ answerWord (slot paper x store call .number) (slot paper x store call .delivered)
-      (slot paper x store call .written) (slot paper x store call .read)
+  pub word-is : r .word ≡ answerWord (slot paper x store call .reply)
 
--- What a run hands back, with the registers that it leaves.
-abbrev pub advancedTo : Regs → Answered → Advanced
-advancedTo regs r = record {
-  regs = regs;
-  number = r .number;
-  delivery = r .delivery;
-  written = r .written;
-  read = r .read;
-}
+-- What a run hands back of its last slot, with the registers that it leaves.
+abbrev pub advancedTo : Regs → Reply → Advanced
+advancedTo regs r = record { regs = regs; reply = r }
 
 -- A run of one call is the slot in place: on a refusal the registers and the arrays are as they came.
 pub record OneSlotSays (regs : Regs) (m : Arrays) (store : List ℕ) (call : Call) (r : Advanced) (m′ : Arrays)

@@ -9,22 +9,18 @@ ghost use Rattle.slot_in_place.specs.Says.{Ready, AsGiven};
 ghost use Rattle.run_words.specs.Words.{callOf};
 ghost use Rattle.run_in_place.specs.Says.{advancedIn, advancedTo, CalledSays, RunInPlaceSays, OneCallSays};
 use layout::CellArray;
-use layout::Chosen;
 use layout::CountArray;
-use layout::Delivery;
 use layout::HeadArray;
 use layout::RegArray;
 use layout::Regs;
+use layout::Reply;
 use layout::RingArray;
 use layout::TailArray;
 
-// Where a slot of a run leaves the registers, its answer, and that answer as one number.
+// Where a slot of a run leaves the registers, what it tells, and that as one number.
 pub struct Called {
     pub regs: Regs,
-    pub number: u8,
-    pub delivery: Delivery,
-    pub written: Chosen,
-    pub read: Chosen,
+    pub reply: Reply,
     pub word: u64,
 }
 
@@ -68,30 +64,16 @@ pub fn answer_call(
         store,
     );
     let next = a.regs;
-    let number = a.number;
-    let delivery = a.delivery;
-    let written = a.written;
-    let read = a.read;
-    let word = run_words::answer_word(number, delivery, written, read);
+    let reply = a.reply;
+    let word = run_words::answer_word(reply);
     Called {
         regs: next,
-        number: number,
-        delivery: delivery,
-        written: written,
-        read: read,
+        reply: reply,
         word: word,
     }
 }
 
-// What the last slot of a run answered.
-pub struct Answered {
-    pub number: u8,
-    pub delivery: Delivery,
-    pub written: Chosen,
-    pub read: Chosen,
-}
-
-// The slots of all calls, in order, and what the last of them answered. It is the only caller of the slot in place, so
+// The slots of all calls, in order, and what the last of them told. It is the only caller of the slot in place, so
 // that the compiler puts the slot into its loop; whoever wants one slot runs one call. For that caller's sake the
 // registers are lent, to be read once and put back once, and each array of counts stands beside what it counts: a record
 // of registers, and three pointers that come over the stack and go on over it, are both copied by pairs, and a pair that
@@ -109,7 +91,7 @@ pub fn run_calls(
     calls: &[u64],
     answers: &mut [u64],
     store: &mut [u8],
-) -> Answered
+) -> Reply
     requires { ⌜ Ready (regsIn (now regs)) (given tail head cells firsts stored)
         (countsGiven tails heads owing) (now store)
         × (length (now calls) ≤ length (now answers)) ⌝ }
@@ -125,12 +107,10 @@ pub fn run_calls(
         (left tail head cells firsts stored) (countsLeft tails heads owing) (now (store .exit)) ⌝ }
 {
     let before = layout::regs_in(regs);
+    let none = layout::number_alone(0);
     let mut last = Called {
         regs: before,
-        number: 0,
-        delivery: Delivery::NoDelivery,
-        written: Chosen::Nothing,
-        read: Chosen::Nothing,
+        reply: none,
         word: 0,
     };
     let mut i: usize = 0;
@@ -154,14 +134,5 @@ pub fn run_calls(
     }
     let end = last.regs;
     layout::put_regs(regs, end);
-    let number = last.number;
-    let delivery = last.delivery;
-    let written = last.written;
-    let read = last.read;
-    Answered {
-        number: number,
-        delivery: delivery,
-        written: written,
-        read: read,
-    }
+    last.reply
 }

@@ -143,25 +143,25 @@ read-slot x store call {arrival} {request} ea er =
 -- And so does the round robin arbiter: an arrival of a queue that there is not is refused, whatever would be chosen.
 pub record SameArbiter (x : State) (store : List ℕ) (arrival other : Option Byte) : Type 0 where
   pub same-slot : arbiterSlot paper x store arrival ≡ arbiterSlot paper x store other
-  pub same-asked : taken (arbiterSlot paper x store arrival .number) (choice x arrival)
-      ≡ taken (arbiterSlot paper x store other .number) (choice x other)
+  pub same-asked : taken (arbiterSlot paper x store arrival .reply .number) (choice x arrival)
+      ≡ taken (arbiterSlot paper x store other .reply .number) (choice x other)
 
 module _ (x : State) (store : List ℕ) (arrival other : Option Byte) where
   same-arrival : arrival ≡ other → SameArbiter x store arrival other
   same-arrival e = record {
     same-slot = ap (arbiterSlot paper x store) e;
-    same-asked = ap (λ (a : Option Byte). taken (arbiterSlot paper x store a .number) (choice x a)) e;
+    same-asked = ap (λ (a : Option Byte). taken (arbiterSlot paper x store a .reply .number) (choice x a)) e;
   }
 
   both-refused : (n : ℕ) → slot paper x store (arbiterCall x arrival) ≡ refuse (suc n) x store
       → slot paper x store (arbiterCall x other) ≡ refuse (suc n) x store → SameArbiter x store arrival other
   both-refused n e f = record {
     same-slot =
-        ap (λ (a : Answer). noting (lastAfter (a .number) (choice x arrival) (x .lastAsked)) a) e
-        ∙ sym (ap (λ (a : Answer). noting (lastAfter (a .number) (choice x other) (x .lastAsked)) a) f);
+        ap (λ (a : Answer). noting (lastAfter (a .reply .number) (choice x arrival) (x .lastAsked)) a) e
+        ∙ sym (ap (λ (a : Answer). noting (lastAfter (a .reply .number) (choice x other) (x .lastAsked)) a) f);
     same-asked =
-        ap (λ (a : Answer). taken (a .number) (choice x arrival)) e
-        ∙ sym (ap (λ (a : Answer). taken (a .number) (choice x other)) f);
+        ap (λ (a : Answer). taken (a .reply .number) (choice x arrival)) e
+        ∙ sym (ap (λ (a : Answer). taken (a .reply .number) (choice x other)) f);
   }
 
 pub near-arbiter : (x : State) (store : List ℕ) (arrival : Option Byte) → SameArbiter x store (nearByte arrival) arrival

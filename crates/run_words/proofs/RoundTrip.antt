@@ -1,10 +1,9 @@
 -- An answer that was made a number is read back from it whole, where its number and its value fit 8 bits and its queues
 -- fit 10: no part reaches into the bits of another.
 use mathlib.Core.Path.{_≡_, _∙_}
-use mathlib.Core.Option.{Option}
 use Prim.Native.Nat.{ℕ, _+_, _*_, _/_, _%_, _<_}
 use native.Mathlib.Omega.{arith}
-use Rattle.model.specs.State.{Byte}
+use Rattle.model.specs.Slot.{Reply}
 use Rattle.run_words.specs.Words.{answerQueues, byteWord, queueWord, byteIn, queueIn}
 use Rattle.run_words.specs.Words.{answerWord, numberOf, deliveredOf, writtenOf, readOf}
 use Rattle.run_words.proofs.Bits.{ByteFits, QueueFits, byte-same, queue-same}
@@ -27,30 +26,41 @@ module _ (n r w d : ℕ) (delivered-low : d < 524288) where
   number-part : w < 2048 → r < 2048 → n < 256 → four / 72057594037927936 % 256 ≡ n
   number-part wl rl nl = omega arith
 
-module _ (n : ℕ) (d : Option Byte) (w r : Option ℕ) (number-fits : n < 256) (delivered-fits : ByteFits d)
-    (written-fits : QueueFits w) (read-fits : QueueFits r) where
-  pub number-back : numberOf (answerWord n d w r) ≡ n
+module _ (t : Reply) (number-fits : t .number < 256) (delivered-fits : ByteFits (t .delivered))
+    (written-fits : QueueFits (t .written)) (read-fits : QueueFits (t .read)) where
+  abbrev n : ℕ
+  n = t .number
+
+  abbrev r : ℕ
+  r = queueWord (t .read)
+
+  abbrev w : ℕ
+  w = queueWord (t .written)
+
+  abbrev d : ℕ
+  d = byteWord (t .delivered)
+
+  low : d < 524288
+  low = byte-word-low (t .delivered) delivered-fits
+
+  written-low : w < 2048
+  written-low = queue-word-low (t .written) written-fits
+
+  read-low : r < 2048
+  read-low = queue-word-low (t .read) read-fits
+
+  pub number-back : numberOf (answerWord t) ≡ t .number
   unfolding numberOf answerWord
-  number-back =
-      number-part n (queueWord r) (queueWord w) (byteWord d) (byte-word-low d delivered-fits)
-      (queue-word-low w written-fits) (queue-word-low r read-fits) number-fits
+  number-back = number-part n r w d low written-low read-low number-fits
 
-  pub delivered-back : deliveredOf (answerWord n d w r) ≡ d
+  pub delivered-back : deliveredOf (answerWord t) ≡ t .delivered
   unfolding deliveredOf answerWord
-  delivered-back =
-      delivered-part n (queueWord r) (queueWord w) (byteWord d) (byte-word-low d delivered-fits)
-      ∙ byte-word-back d delivered-fits
+  delivered-back = delivered-part n r w d low ∙ byte-word-back (t .delivered) delivered-fits
 
-  pub written-back : writtenOf (answerWord n d w r) ≡ w
+  pub written-back : writtenOf (answerWord t) ≡ t .written
   unfolding writtenOf answerWord
-  written-back =
-      written-part n (queueWord r) (queueWord w) (byteWord d) (byte-word-low d delivered-fits)
-      (queue-word-low w written-fits)
-      ∙ queue-word-back w written-fits
+  written-back = written-part n r w d low written-low ∙ queue-word-back (t .written) written-fits
 
-  pub read-back : readOf (answerWord n d w r) ≡ r
+  pub read-back : readOf (answerWord t) ≡ t .read
   unfolding readOf answerWord
-  read-back =
-      read-part n (queueWord r) (queueWord w) (byteWord d) (byte-word-low d delivered-fits)
-      (queue-word-low w written-fits) (queue-word-low r read-fits)
-      ∙ queue-word-back r read-fits
+  read-back = read-part n r w d low written-low read-low ∙ queue-word-back (t .read) read-fits

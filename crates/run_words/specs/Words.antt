@@ -17,7 +17,7 @@
 use mathlib.Core.Option.{Option, some, none}
 use Prim.Native.Nat.{ℕ, zero, suc, _+_, _*_, _/_, _%_, min}
 use Rattle.model.specs.State.{Byte, byte}
-use Rattle.model.specs.Slot.{Call}
+use Rattle.model.specs.Slot.{Call, Reply}
 
 -- How many queues a field can say: 2 to the number of its bits.
 abbrev pub callQueues : ℕ
@@ -56,10 +56,11 @@ byteIn queues w = valueOf (queueIn queues (w / 256)) (w % 256)
 unfoldable pub callOf : ℕ → Call
 callOf c = record { arrival = byteIn callQueues c; request = queueIn callQueues (c / 33554432) }
 
--- An answer as a number: refusal's number, byte delivered, queue written, queue read.
-unfoldable pub answerWord : ℕ → Option Byte → Option ℕ → Option ℕ → ℕ
-answerWord number delivered written read =
-    number * 72057594037927936 + queueWord read * 1073741824 + queueWord written * 524288 + byteWord delivered
+-- What a slot tells as a number: refusal's number, queue read, queue written, byte delivered.
+unfoldable pub answerWord : Reply → ℕ
+answerWord r =
+    r .number * 72057594037927936 + queueWord (r .read) * 1073741824 + queueWord (r .written) * 524288
+    + byteWord (r .delivered)
 
 -- What a number says as an answer.
 unfoldable pub numberOf : ℕ → ℕ

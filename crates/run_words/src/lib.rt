@@ -2,13 +2,14 @@
 // layout of their bits.
 ghost use mathlib.Core.Path.{_≡_};
 ghost use Prim.Native.Nat.{_<_};
-ghost use Rattle.layout.specs.Calls.{chosenIn, arrivalIn, requestIn, deliveryIn, callIn};
+ghost use Rattle.layout.specs.Calls.{chosenIn, arrivalIn, requestIn, deliveryIn, callIn, replyIn};
 ghost use Rattle.run_words.specs.Words.{callQueues, answerQueues, byteWord, queueWord, byteIn, queueIn, callOf};
 ghost use Rattle.run_words.specs.Words.{answerWord, numberOf, deliveredOf, writtenOf, readOf};
 ghost use Rattle.run_words.specs.Words.{nearest, nearByte, nearQueue};
 use layout::Arrival;
 use layout::Chosen;
 use layout::Delivery;
+use layout::Reply;
 use layout::Request;
 
 // The queue of 8 bits that is nearest to one of more.
@@ -88,11 +89,14 @@ fn chosen_bits(chosen: Chosen) -> u64
     }
 }
 
-// An answer as one number: the refusal's number or 0, the byte delivered, the queue written and the queue read.
-pub fn answer_word(number: u8, delivery: Delivery, written: Chosen, read: Chosen) -> u64
-    ensures { λ r. ⌜ r ≡ answerWord number (deliveryIn delivery) (chosenIn written) (chosenIn read) ⌝ }
+// What a slot tells as one number: the refusal's number or 0, the queue read, the queue written and the byte delivered.
+pub fn answer_word(reply: Reply) -> u64
+    ensures { λ r. ⌜ r ≡ answerWord (replyIn reply) ⌝ }
 {
-    (number as u64) * 72057594037927936
+    let delivery = reply.delivery;
+    let written = reply.written;
+    let read = reply.read;
+    (reply.number as u64) * 72057594037927936
         + chosen_bits(read) * 1073741824
         + chosen_bits(written) * 524288
         + delivery_bits(delivery)

@@ -11,7 +11,7 @@ use borrow.Author.Tests.{ne-eqb}
 use Rattle.model.specs.Basics.{choose}
 use Rattle.model.specs.Sizes.{paper}
 use Rattle.model.specs.State.{Byte, byte, State}
-use Rattle.model.specs.Slot.{Call, Answer, slot}
+use Rattle.model.specs.Slot.{Call, Reply, Answer, slot}
 use Rattle.model.specs.Calls.{idle, idles}
 use Rattle.model.specs.Lists.{Step, stepOf, run, lastState, lastStore, accepted}
 use Rattle.model.specs.Idle.{lastAnswer}
@@ -127,8 +127,8 @@ pub no-idles : (n : ℕ) → n ≡ 0 → idles n ≡ []
 no-idles n none-left = ap idles none-left
 
 -- One slot counts by its number.
-counts-one : (t : ℕ) (step : Step) → countOn t (step .number) ≡ t + length (accepted (step ∷ []))
-counts-one t step = go (step .number)
+counts-one : (t : ℕ) (step : Step) → countOn t (step .reply .number) ≡ t + length (accepted (step ∷ []))
+counts-one t step = go (step .reply .number)
   where
     go : (n : ℕ) → countOn t n ≡ t + length (choose (eqb n 0) (step ∷ []) [])
     go zero = omega arith
@@ -137,28 +137,28 @@ counts-one t step = go (step .number)
 -- The slot in place.
 module _ {x : State} {store : List ℕ} {call : Call} {a : Advanced} {m : Arrays} {counts : ByQueue} {store′ : List ℕ}
     (says : AdvanceSays x store call a m counts store′) where
-  number-is : a .number ≡ slot paper x store call .number
-  number-is = ap (λ (b : Answer). b .number) (says .answer-is)
+  number-is : a .reply .number ≡ slot paper x store call .reply .number
+  number-is = ap (λ (b : Answer). b .reply .number) (says .answer-is)
 
-  delivered-is : deliveryIn (a .delivery) ≡ slot paper x store call .delivered
-  delivered-is = ap (λ (b : Answer). b .delivered) (says .answer-is)
+  delivered-is : deliveryIn (a .reply .delivery) ≡ slot paper x store call .reply .delivered
+  delivered-is = ap (λ (b : Answer). b .reply .delivered) (says .answer-is)
 
-  slot-lines : (t : ℕ) → answerLines t (a .number) (deliveryIn (a .delivery))
+  slot-lines : (t : ℕ) → answerLines t (a .reply .number) (deliveryIn (a .reply .delivery))
       ≡ slotLines t (run paper x store (call ∷ []))
   slot-lines t =
-      ap (λ (n : ℕ). answerLines t n (deliveryIn (a .delivery))) number-is
-      ∙ ap (λ (d : Option Byte). answerLines t (slot paper x store call .number) d) delivered-is
-      ∙ sym (append-nil (answerLines t (slot paper x store call .number) (slot paper x store call .delivered)))
+      ap (λ (n : ℕ). answerLines t n (deliveryIn (a .reply .delivery))) number-is
+      ∙ ap (λ (d : Option Byte). answerLines t (slot paper x store call .reply .number) d) delivered-is
+      ∙ sym (append-nil (answerLines t (slot paper x store call .reply .number) (slot paper x store call .reply .delivered)))
 
   pub slot-answer-fits : {t place : ℕ} {output : List ℕ} → Room x store (call ∷ []) t place output
-      → AnswerFits t (a .number) (deliveryIn (a .delivery)) place output
+      → AnswerFits t (a .reply .number) (deliveryIn (a .reply .delivery)) place output
   slot-answer-fits {t} room = record {
     lines-fit = omega (arith, room .lines-fit, ap (λ (l : List Line). length (text l)) (slot-lines t));
     slots-fit = omega (arith, room .slots-fit);
   }
 
   pub slot-runs : {t place : ℕ} {output output′ : List ℕ} {r : AnswerPut} {p : Progress}
-      → AnswerSays t (a .number) (deliveryIn (a .delivery)) place output r output′
+      → AnswerSays t (a .reply .number) (deliveryIn (a .reply .delivery)) place output r output′
       → p .regs ≡ a .regs → p .slots ≡ r .slots → p .place ≡ r .place
       → RunsOn x store (call ∷ []) t place output p m counts store′ output′
   slot-runs {t} {place} {output} {output′} {r} {p} answered es et ep = record {
@@ -169,7 +169,7 @@ module _ {x : State} {store : List ℕ} {call : Call} {a : Advanced} {m : Arrays
         ∙ counts-one t (stepOf x store call (slot paper x store call));
     lines-are =
         subst (λ (l : List Line). PutSays (text l) place output (p .place) output′) (slot-lines t)
-        (subst (λ (n : ℕ). PutSays (text (answerLines t (a .number) (deliveryIn (a .delivery)))) place output n output′)
+        (subst (λ (n : ℕ). PutSays (text (answerLines t (a .reply .number) (deliveryIn (a .reply .delivery)))) place output n output′)
         (sym ep) (answered .lines-are));
     ready = subst (λ (s : Regs). Ready s m counts store′) (sym es) (says .ready);
   }
@@ -200,11 +200,11 @@ module _ {x : State} {store : List ℕ} {n : ℕ} {r : Passed} {m : Arrays} {cou
     last-is : lastAnswer paper x store (r .passed) ≡ slot paper y bytes idle
     last-is = last-is-slot paper x store (r .passed) some-passed
 
-    number-last : r .number ≡ last .number
-    number-last = says .stretch .last-number ∙ ap (λ (a : Answer). a .number) last-is
+    number-last : r .reply .number ≡ last .reply .number
+    number-last = ap (λ (t : Reply). t .number) (says .stretch .last-is) ∙ ap (λ (a : Answer). a .reply .number) last-is
 
-    delivered-last : deliveryIn (r .delivery) ≡ last .delivered
-    delivered-last = says .stretch .last-delivered ∙ ap (λ (a : Answer). a .delivered) last-is
+    delivered-last : deliveryIn (r .reply .delivery) ≡ last .reply .delivered
+    delivered-last = ap (λ (t : Reply). t .delivered) (says .stretch .last-is) ∙ ap (λ (a : Answer). a .reply .delivered) last-is
 
     parts : idles (r .passed) ≡ idles before ++ idle ∷ []
     parts = idles-parts (r .passed) before 1 (omega (arith, some-passed))
@@ -216,18 +216,18 @@ module _ {x : State} {store : List ℕ} {n : ℕ} {r : Passed} {m : Arrays} {cou
         ∙ length-replicate before idle
 
     stretch-lines : (t : ℕ) → slotLines t (run paper x store (idles (r .passed)))
-        ≡ answerLines (t + before) (r .number) (deliveryIn (r .delivery))
+        ≡ answerLines (t + before) (r .reply .number) (deliveryIn (r .reply .delivery))
     stretch-lines t =
         ap (λ (cs : List Call). slotLines t (run paper x store cs)) parts
         ∙ run-lines-append paper x store (idles before) (idle ∷ []) t
         ∙ ap (λ (l : List Line). l ++ slotLines (t + length (accepted (run paper x store (idles before)))) (last ∷ []))
         (quiet-prints-nothing t (run paper x store (idles before)) (says .stretch .quiet-first))
         ∙ ap (λ (k : ℕ). slotLines (t + k) (last ∷ [])) all-before
-        ∙ append-nil (answerLines (t + before) (last .number) (last .delivered))
-        ∙ ap (λ (k : ℕ). answerLines (t + before) k (last .delivered)) (sym number-last)
-        ∙ ap (answerLines (t + before) (r .number)) (sym delivered-last)
+        ∙ append-nil (answerLines (t + before) (last .reply .number) (last .reply .delivered))
+        ∙ ap (λ (k : ℕ). answerLines (t + before) k (last .reply .delivered)) (sym number-last)
+        ∙ ap (answerLines (t + before) (r .reply .number)) (sym delivered-last)
 
-    stretch-count : (t : ℕ) → countOn (t + before) (r .number)
+    stretch-count : (t : ℕ) → countOn (t + before) (r .reply .number)
         ≡ t + length (accepted (run paper x store (idles (r .passed))))
     stretch-count t =
         ap (countOn (t + before)) number-last
@@ -245,7 +245,7 @@ module _ {x : State} {store : List ℕ} {n : ℕ} {r : Passed} {m : Arrays} {cou
         omega (arith, room .slots-fit, some-passed, most-passed, length-replicate n idle)
 
     pub stretch-answer-fits : {t place : ℕ} {output : List ℕ} → Room x store (idles n) t place output
-        → AnswerFits (t + before) (r .number) (deliveryIn (r .delivery)) place output
+        → AnswerFits (t + before) (r .reply .number) (deliveryIn (r .reply .delivery)) place output
     stretch-answer-fits {t} {place} {output} room = record {
       lines-fit = omega (arith, passed-room .lines-fit, ap (λ (l : List Line). length (text l)) (stretch-lines t));
       slots-fit = before-fits room;
@@ -258,7 +258,7 @@ module _ {x : State} {store : List ℕ} {n : ℕ} {r : Passed} {m : Arrays} {cou
             (idles-left n (r .passed) most-passed) room)
 
     pub stretch-runs : (t : ℕ) {place : ℕ} {output output′ : List ℕ} {a : AnswerPut} {p : Progress}
-        → AnswerSays (t + before) (r .number) (deliveryIn (r .delivery)) place output a output′
+        → AnswerSays (t + before) (r .reply .number) (deliveryIn (r .reply .delivery)) place output a output′
         → p .regs ≡ r .regs → p .slots ≡ a .slots → p .place ≡ a .place
         → RunsOn x store (idles (r .passed)) t place output p m counts store′ output′
     stretch-runs t {place} {output} {output′} {a} {p} answered es et ep = record {
@@ -269,7 +269,7 @@ module _ {x : State} {store : List ℕ} {n : ℕ} {r : Passed} {m : Arrays} {cou
           subst (λ (l : List Line). PutSays (text l) place output (p .place) output′)
           (sym (stretch-lines t))
           (subst
-          (λ (i : ℕ). PutSays (text (answerLines (t + before) (r .number) (deliveryIn (r .delivery)))) place output i
+          (λ (i : ℕ). PutSays (text (answerLines (t + before) (r .reply .number) (deliveryIn (r .reply .delivery)))) place output i
           output′)
           (sym ep) (answered .lines-are));
       ready = subst (λ (z : Regs). Ready z m counts store′) (sym es) (says .ready);

@@ -100,7 +100,7 @@ fn run_slot(
     layout::put_regs(&mut lent, regs);
     let calls = [run_words::call_word(arrival, request)];
     let mut answers = [0u64; 1];
-    let slot = run_in_place::run_calls(
+    let reply = run_in_place::run_calls(
         tail,
         tails,
         head,
@@ -115,8 +115,8 @@ fn run_slot(
         store,
     );
     let next = layout::regs_in(&lent);
-    let delivery = slot.delivery;
-    let put = put_answer(output, start.place, start.slots, slot.number, delivery);
+    let delivery = reply.delivery;
+    let put = put_answer(output, start.place, start.slots, reply.number, delivery);
     Progress {
         regs: next,
         slots: put.slots,
@@ -169,9 +169,10 @@ fn run_idles(
         );
         let next = stretch.regs;
         let passed = stretch.passed;
-        let delivery = stretch.delivery;
+        let reply = stretch.reply;
+        let delivery = reply.delivery;
         let before_last = reached.slots + (passed - 1) as u64;
-        let put = put_answer(output, reached.place, before_last, stretch.number, delivery);
+        let put = put_answer(output, reached.place, before_last, reply.number, delivery);
         reached = Progress {
             regs: next,
             slots: put.slots,

@@ -33,7 +33,7 @@ refused-test n = ne-eqb (suc n) 0 (λ e. omega (arith, e))
 -- The accepted slots of a list in two parts.
 pub accepted-append : (xs ys : List Step) → accepted (xs ++ ys) ≡ accepted xs ++ accepted ys
 accepted-append [] ys = refl
-accepted-append (step ∷ xs) ys = by-number (step .number) (accepted-append xs ys)
+accepted-append (step ∷ xs) ys = by-number (step .reply .number) (accepted-append xs ys)
   where
     by-number : (n : ℕ) → accepted (xs ++ ys) ≡ accepted xs ++ accepted ys
         → choose (eqb n 0) (step ∷ accepted (xs ++ ys)) (accepted (xs ++ ys))
@@ -56,14 +56,14 @@ pub slot-lines-append : (t : ℕ) (xs ys : List Step)
 slot-lines-append t [] ys = ap (λ (n : ℕ). slotLines n ys) (sym (add-zero t))
 slot-lines-append t (step ∷ xs) ys =
     ap (λ (lines : List Line). first ++ lines)
-    (slot-lines-append (countOn t (step .number)) xs ys
-    ∙ ap (λ (n : ℕ). slotLines (countOn t (step .number)) xs ++ slotLines n ys)
-    (count-goes-on t (step .number) step xs))
-    ∙ sym (append-assoc first (slotLines (countOn t (step .number)) xs)
+    (slot-lines-append (countOn t (step .reply .number)) xs ys
+    ∙ ap (λ (n : ℕ). slotLines (countOn t (step .reply .number)) xs ++ slotLines n ys)
+    (count-goes-on t (step .reply .number) step xs))
+    ∙ sym (append-assoc first (slotLines (countOn t (step .reply .number)) xs)
     (slotLines (t + length (accepted (step ∷ xs))) ys))
   where
     first : List Line
-    first = answerLines t (step .number) (step .delivered)
+    first = answerLines t (step .reply .number) (step .reply .delivered)
 
 -- The same of a run of calls in two parts, the second on what the first left (`last-append` and `last-store-append` of
 -- the model say what both leave).
@@ -87,8 +87,8 @@ module _ (design : Design) (x : State) (store : List ℕ) (calls more : List Cal
 pub quiet-prints-nothing : (t : ℕ) (steps : List Step) → All QuietStep steps → slotLines t steps ≡ []
 quiet-prints-nothing t [] quiet = refl
 quiet-prints-nothing t (step ∷ steps) quiet =
-    rw (quiet .0 .accepted, quiet .0 .no-delivery) (quiet-prints-nothing (suc t) steps (quiet .1))
+    rw (quiet .0) (quiet-prints-nothing (suc t) steps (quiet .1))
 
 pub quiet-all-accepted : (steps : List Step) → All QuietStep steps → length (accepted steps) ≡ length steps
 quiet-all-accepted [] quiet = refl
-quiet-all-accepted (step ∷ steps) quiet = rw (quiet .0 .accepted) (ap suc (quiet-all-accepted steps (quiet .1)))
+quiet-all-accepted (step ∷ steps) quiet = rw (quiet .0) (ap suc (quiet-all-accepted steps (quiet .1)))

@@ -43,7 +43,7 @@ all-map P R f (x ∷ xs) h = (f x (h .0), all-map P R f xs (h .1))
 
 all-accepted : (P : Step → Type 0) (steps : List Step) → All P steps → All P (accepted steps)
 all-accepted P [] h = tt
-all-accepted P (step ∷ steps) h = by-test (eqb (step .number) 0)
+all-accepted P (step ∷ steps) h = by-test (eqb (step .reply .number) 0)
     (λ t. rw t (h .0, all-accepted P steps (h .1)))
     (λ t. rw t (all-accepted P steps (h .1)))
 
@@ -67,11 +67,11 @@ module _ (queues values : ℕ) (two : queues ≤ 100) (three : values ≤ 1000) 
       )
 
   slot-lines-short : (t : ℕ) (steps : List Step) → t + length steps ≤ mostSlots
-      → All (λ (step : Step). step .number ≤ 10) steps → All Regs (deliveries (accepted steps))
+      → All (λ (step : Step). step .reply .number ≤ 10) steps → All Regs (deliveries (accepted steps))
       → length (text (slotLines t steps)) ≤ 20 * lineCount steps
   slot-lines-short t [] l low regs = omega arith
   slot-lines-short t (step ∷ steps) l low regs =
-      by-number (step .number) (low .0) regs (λ u m h. slot-lines-short u steps m (low .1) h)
+      by-number (step .reply .number) (low .0) regs (λ u m h. slot-lines-short u steps m (low .1) h)
     where
       taken-with : ℕ → List Step
       taken-with n = choose (eqb n 0) (step ∷ accepted steps) (accepted steps)
@@ -79,14 +79,14 @@ module _ (queues values : ℕ) (two : queues ≤ 100) (three : values ≤ 1000) 
       by-number : (n : ℕ) → n ≤ 10 → All Regs (deliveries (taken-with n))
           → ((u : ℕ) → u + length steps ≤ mostSlots → All Regs (deliveries (accepted steps))
           → length (text (slotLines u steps)) ≤ 20 * lineCount steps)
-          → length (text (answerLines t n (step .delivered) ++ slotLines (countOn t n) steps))
+          → length (text (answerLines t n (step .reply .delivered) ++ slotLines (countOn t n) steps))
           ≤ 20 * ((choose (eqb n 0) 0 1 + refusedOf steps) + present (deliveries (taken-with n)))
       by-number zero low regs later =
           omega (
             arith,
-            ap length (text-append (deliveryLines t (step .delivered)) (slotLines (suc t) steps)),
-            length-append (text (deliveryLines t (step .delivered))) (text (slotLines (suc t) steps)),
-            delivery-short t (step .delivered) (omega (arith, l)) (regs .0),
+            ap length (text-append (deliveryLines t (step .reply .delivered)) (slotLines (suc t) steps)),
+            length-append (text (deliveryLines t (step .reply .delivered))) (text (slotLines (suc t) steps)),
+            delivery-short t (step .reply .delivered) (omega (arith, l)) (regs .0),
             later (suc t) (omega (arith, l)) (regs .1),
           )
       by-number (suc n) low regs later =
@@ -121,8 +121,8 @@ module _ (s : Sizes) (store : List ℕ) (e : startNumber s store ≡ 0) where
       (when-zero (ltb (length store) (storeBytes s)) 1 (no-refusal-at tests 1 e))
 
 -- Demand 3 rules out every refusal that an idle slot could have.
-none-of-idle : (steps : List Step) → All NoMiss steps → All (λ (step : Step). step .number ≡ 3 → ⊥) steps
-    → All (λ (step : Step). step .number ≡ 2 → ⊥) steps → All (λ (step : Step). NoneOfIdle (step .number)) steps
+none-of-idle : (steps : List Step) → All NoMiss steps → All (λ (step : Step). step .reply .number ≡ 3 → ⊥) steps
+    → All (λ (step : Step). step .reply .number ≡ 2 → ⊥) steps → All (λ (step : Step). NoneOfIdle (step .reply .number)) steps
 none-of-idle [] miss three two = tt
 none-of-idle (step ∷ steps) miss three two = (
   record { not-2 = two .0; not-3 = three .0; not-8 = miss .0 .not-8; not-10 = miss .0 .not-10 },
@@ -138,7 +138,7 @@ module _ (cs : List of.Command) (store : List ℕ) (e : startNumber (sizesOf cs)
   meets : ListMeets (sizesOf cs) store steps
   meets = every-list paperLimits (sizesOf cs) store (slotsOfAll cs) (sizes-accepted (sizesOf cs) store e)
 
-  says : All (λ (step : Step). (step .number ≤ 10) × TakesSmall (sizesOf cs .Q) 256 step) steps
+  says : All (λ (step : Step). (step .reply .number ≤ 10) × TakesSmall (sizesOf cs .Q) 256 step) steps
   says = run-says paper 256 (sizesOf cs) (fresh paper (sizesOf cs)) store (slotsOfAll cs) refl values-small
 
   lines-paid : lineCount steps ≤ busyOf (slotsOfAll cs)

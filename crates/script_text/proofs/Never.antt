@@ -58,13 +58,13 @@ answer-lines t zero (some y) three eight nine ten =
     (low-number (delivery t (y .queue) (y .value)) (omega arith), tt)
 answer-lines t (suc n) o three eight nine ten = (by-refused-with (refusal t (suc n)) three eight nine ten, tt)
 
-slot-lines : (t : ℕ) (steps : List Step) → All NoMiss steps → All (λ (step : Step). step .number ≡ 3 → ⊥) steps
+slot-lines : (t : ℕ) (steps : List Step) → All NoMiss steps → All (λ (step : Step). step .reply .number ≡ 3 → ⊥) steps
     → All NoneOfThese (slotLines t steps)
 slot-lines t [] miss three = tt
 slot-lines t (step ∷ steps) miss three =
-    all-append NoneOfThese (answerLines t (step .number) (step .delivered)) (slotLines (countOn t (step .number)) steps)
-    (answer-lines t (step .number) (step .delivered) (three .0) (miss .0 .not-8) (miss .0 .not-9) (miss .0 .not-10))
-    (slot-lines (countOn t (step .number)) steps (miss .1) (three .1))
+    all-append NoneOfThese (answerLines t (step .reply .number) (step .reply .delivered)) (slotLines (countOn t (step .reply .number)) steps)
+    (answer-lines t (step .reply .number) (step .reply .delivered) (three .0) (miss .0 .not-8) (miss .0 .not-9) (miss .0 .not-10))
+    (slot-lines (countOn t (step .reply .number)) steps (miss .1) (three .1))
 
 -- A script that starts, or not.
 started-lines : (start : ℕ) (cs : List of.Command) (store : List ℕ) → startNumber (sizesOf cs) store ≡ start

@@ -33,7 +33,7 @@ busyOf (call ∷ calls) = busy (call .arrival) (call .request) + busyOf calls
 -- The refused slots of a list.
 abbrev pub refusedOf : List Step → ℕ
 refusedOf [] = 0
-refusedOf (step ∷ steps) = choose (eqb (step .number) 0) 0 1 + refusedOf steps
+refusedOf (step ∷ steps) = choose (eqb (step .reply .number) 0) 0 1 + refusedOf steps
 
 -- None of the refusals that an idle slot could have.
 pub record NoneOfIdle (n : ℕ) : Type 0 where
@@ -111,7 +111,7 @@ module _ (design : Design) (x : State) (store : List ℕ) (call : Call) where
 
 -- What holds of each slot, whether it is refused or accepted: a low number, what it took in its range, the same sizes.
 record SlotCharged (values : ℕ) (x : State) (step : Step) : Type 0 where
-  number-low : step .number ≤ 10
+  number-low : step .reply .number ≤ 10
   takes : TakesSmall (x .sizes .Q) values step
   sizes-stay : step .state .sizes ≡ x .sizes
 
@@ -140,7 +140,7 @@ slot-says design values x store call a (was-accepted f) h = record {
 
 pub run-says : (design : Design) (values : ℕ) (s : Sizes) (x : State) (store : List ℕ) (calls : List Call)
     → x .sizes ≡ s → All (ArrivalBelow values) calls
-    → All (λ (step : Step). (step .number ≤ 10) × TakesSmall (s .Q) values step) (run design x store calls)
+    → All (λ (step : Step). (step .reply .number ≤ 10) × TakesSmall (s .Q) values step) (run design x store calls)
 run-says design values s x store [] e h = tt
 run-says design values s x store (call ∷ calls) e h =
     let says = slot-says design values x store call (slot design x store call) (outcome design x store call) (h .0) in (
@@ -161,7 +161,7 @@ asked-is-busy (some y) (some q) = omega arith
 
 slot-pays : (design : Design) (x : State) (store : List ℕ) (call : Call) (a : Answer)
     → RefusedOrAccepted design x store call a
-    → NoneOfIdle (a .number) → (steps : List Step)
+    → NoneOfIdle (a .reply .number) → (steps : List Step)
     → refusedOf (stepOf x store call a ∷ steps) + requested (accepted (stepOf x store call a ∷ steps))
     ≤ busy (call .arrival) (call .request) + (refusedOf steps + requested (accepted steps))
 slot-pays design x store call a (was-refused n e) other steps =
@@ -170,7 +170,7 @@ slot-pays design x store call a (was-accepted f) other steps =
     omega (arith, asked-is-busy (call .arrival) (call .request))
 
 pub run-pays : (design : Design) (x : State) (store : List ℕ) (calls : List Call)
-    → All (λ (step : Step). NoneOfIdle (step .number)) (run design x store calls)
+    → All (λ (step : Step). NoneOfIdle (step .reply .number)) (run design x store calls)
     → refusedOf (run design x store calls) + requested (accepted (run design x store calls)) ≤ busyOf calls
 run-pays design x store [] h = omega arith
 run-pays design x store (call ∷ calls) h =

@@ -62,7 +62,7 @@ countOn t (suc n) = t
 abbrev pub slotLines : ℕ → List Step → List Line
 slotLines t [] = []
 slotLines t (step ∷ steps) =
-    answerLines t (step .number) (step .delivered) ++ slotLines (countOn t (step .number)) steps
+    answerLines t (step .reply .number) (step .reply .delivered) ++ slotLines (countOn t (step .reply .number)) steps
 
 -- All lines of a list of slots: "last E t (slots accepted)"; "The E count is the length of the defined run".
 abbrev pub listLines : List Step → List Line

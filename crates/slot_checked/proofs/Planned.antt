@@ -20,17 +20,18 @@ use Rattle.slot_in_place.proofs.Deciding as deciding
 use Rattle.slot_checked.specs.Says.{stateNumber, JudgeStateSays, PlanCheckedSays}
 use Rattle.slot_checked.proofs.Clearing.{ready-judged}
 
-pub slot-number : (x : State) (store : List ℕ) (call : Call) → slot paper x store call .number ≡ refusal paper x store call
+pub slot-number : (x : State) (store : List ℕ) (call : Call)
+    → slot paper x store call .reply .number ≡ refusal paper x store call
 slot-number x store call = go (refusal paper x store call)
   where
-    go : (n : ℕ) → answer n x store call .number ≡ n
+    go : (n : ℕ) → answer n x store call .reply .number ≡ n
     go zero = refl
     go (suc n) = refl
 
 pub plan-refused : {x : State} {bytes number : ℕ} (call : Call) {r : Plan} → JudgeStateSays x bytes number
     → (number ≡ 0 → ⊥) → r .number ≡ number → PlanCheckedSays x bytes call r
 plan-refused call says f e = record {
-  number-is = λ store l. e ∙ sym (ap (λ (a : Answer). a .number) (says .refused f store call l));
+  number-is = λ store l. e ∙ sym (ap (λ (a : Answer). a .reply .number) (says .refused f store call l));
   decided = λ z. absurd (f (sym e ∙ z));
 }
 

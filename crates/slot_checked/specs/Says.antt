@@ -47,6 +47,6 @@ pub record LeaveSays (regs : Regs) (m : Arrays) (counts : ByQueue) (store : List
 -- What a slot will do, of any state and any store of so many bytes: the number that it answers, and where that is 0 all
 -- that is decided of it. No byte of the store has a say in it.
 pub record PlanCheckedSays (x : State) (bytes : ℕ) (call : Call) (r : Plan) : Type 0 where
-  pub number-is : (store : List ℕ) → length store ≡ bytes → r .number ≡ slot paper x store call .number
+  pub number-is : (store : List ℕ) → length store ≡ bytes → r .number ≡ slot paper x store call .reply .number
   pub decided : r .number ≡ 0 → (store : List ℕ) → length store ≡ bytes
       → Decided x store call (r .owes) (r .swaps) (chosenIn (r .written)) (chosenIn (r .read))

@@ -11,7 +11,7 @@ use borrow.Author.Tests.{ltb-true, ltb-false}
 use Rattle.model.specs.Basics.{allOf}
 use Rattle.model.specs.Sizes.{paper, lookahead, storeBytes}
 use Rattle.model.specs.State.{Ring, State, blocks, ringOf, cellBelow}
-use Rattle.model.specs.Slot.{Call, refusal, Answer, accept, refuse, answer, slot}
+use Rattle.model.specs.Slot.{Call, refusal, Reply, numberAlone, Answer, accept, answer, slot}
 use Rattle.model.proofs.basics.Tests.{by-test}
 use Rattle.model.proofs.basics.Cells.{cells-below-holds}
 use Rattle.model.proofs.one_slot.Rules.{Keeps, keeps-facts, keeps-holds}
@@ -104,10 +104,12 @@ module _ {regs : Regs} {m : Arrays} {counts : ByQueue} {store : List ℕ} (r : R
 
     -- A refused slot answers its number, and nothing has changed.
     module _ (call : Call) where
-      pub refused-slot : (n : ℕ) → (n ≡ 0 → ⊥) → n ≡ refusal paper x store call
-          → refuse n x store ≡ slot paper x store call
-      refused-slot zero f e = absurd (f refl)
-      refused-slot (suc n) f e = ap (λ (k : ℕ). answer k x store call) e
+      pub refused-slot : (n : ℕ) {r : Reply} → (n ≡ 0 → ⊥) → n ≡ refusal paper x store call → r ≡ numberAlone n
+          → record { reply = r; state = x; store = store } ≡ slot paper x store call
+      refused-slot zero f e t = absurd (f refl)
+      refused-slot (suc n) f e t =
+          ap (λ (k : Reply). record { reply = k; state = x; store = store }) t
+          ∙ ap (λ (k : ℕ). answer k x store call) e
 
       -- What an accepted slot leaves is ready.
       module _ (accepted : refusal paper x store call ≡ 0) where
@@ -129,13 +131,10 @@ module _ {regs : Regs} {m : Arrays} {counts : ByQueue} {store : List ℕ} (r : R
 
         pub accepted-slot : {c : Carried} {m′ : Arrays} {store′ : List ℕ} {a : Answer}
             → CarrySays x store call c m′ store′
-            → a .number ≡ 0
-            → a .delivered ≡ accept x store call .delivered
-            → a .written ≡ accept x store call .written
-            → a .read ≡ accept x store call .read
+            → a .reply ≡ accept x store call .reply
             → a .state ≡ stateIn (c .regs) m′
             → a .store ≡ store′
             → a ≡ slot paper x store call
-        accepted-slot {a = a} s e₁ e₂ e₃ e₄ e₅ e₆ =
-            answer-is (accept x store call) a e₁ e₂ e₃ e₄ (e₅ ∙ s .state-is) (e₆ ∙ s .store-is)
+        accepted-slot {a = a} s e₁ e₂ e₃ =
+            answer-is (accept x store call) a e₁ (e₂ ∙ s .state-is) (e₃ ∙ s .store-is)
             ∙ ap (λ (k : ℕ). answer k x store call) (sym accepted)

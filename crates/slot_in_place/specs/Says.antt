@@ -9,7 +9,7 @@ use Rattle.model.specs.Sizes.{paper, storeBytes}
 use Rattle.model.specs.State.{State, keeps}
 use Rattle.model.specs.Slot.{Call, delivery, isOwed, swaps, joined, asked, wrote, wroteStore, queueToWrite}
 use Rattle.model.specs.Slot.{queueToRead, refusal, Answer, accept, slot}
-use Rattle.layout.specs.Calls.{chosenIn, deliveryIn}
+use Rattle.layout.specs.Calls.{deliveryIn, replyIn}
 use Rattle.layout.specs.declared.Regs.{Regs}
 use Rattle.layout.specs.Views.{Arrays, Long, stateIn, sizesIn}
 use Rattle.layout.specs.Counts.{ByQueue, Tallies}
@@ -44,14 +44,7 @@ pub record Ready (regs : Regs) (m : Arrays) (counts : ByQueue) (store : List ℕ
 
 -- The answer of a slot in arrays.
 abbrev pub answerIn : Advanced → Arrays → List ℕ → Answer
-answerIn r m store = record {
-  number = r .number;
-  delivered = deliveryIn (r .delivery);
-  written = chosenIn (r .written);
-  read = chosenIn (r .read);
-  state = stateIn (r .regs) m;
-  store = store;
-}
+answerIn r m store = record { reply = replyIn (r .reply); state = stateIn (r .regs) m; store = store }
 
 -- One slot, exactly as the model has it; what it leaves is ready for the next.
 pub record AdvanceSays (x : State) (store : List ℕ) (call : Call) (r : Advanced) (m : Arrays)
@@ -61,4 +54,4 @@ pub record AdvanceSays (x : State) (store : List ℕ) (call : Call) (r : Advance
 
 -- On a refusal the registers and the arrays are as they came, places past a fill included.
 abbrev pub AsGiven : Regs → Arrays → Advanced → Arrays → Type 0
-AsGiven regs m r m′ = (r .number ≡ 0 → ⊥) → (r .regs ≡ regs) × (m′ ≡ m)
+AsGiven regs m r m′ = (r .reply .number ≡ 0 → ⊥) → (r .regs ≡ regs) × (m′ ≡ m)

@@ -10,6 +10,7 @@ use layout::CountArray;
 use layout::Delivery;
 use layout::HeadArray;
 use layout::Regs;
+use layout::Reply;
 use layout::Request;
 use layout::RingArray;
 use layout::TailArray;
@@ -80,13 +81,10 @@ pub fn carry(
     }
 }
 
-// What a slot answers: the registers that it leaves, the paper's number, the delivery, the queues written and read.
+// What a slot answers: the registers that it leaves, and what it tells.
 pub struct Advanced {
     pub regs: Regs,
-    pub number: u8,
-    pub delivery: Delivery,
-    pub written: Chosen,
-    pub read: Chosen,
+    pub reply: Reply,
 }
 
 // One slot. It is judged before anything moves, so that a refused one has changed nothing; then the counts by queue and
@@ -120,12 +118,10 @@ pub fn advance(
     let plan = slot_plan::decide(cells, tails, heads, owing, stored, regs, arrival, request);
     let number = plan.number;
     if number != 0 {
+        let refused = layout::number_alone(number);
         return Advanced {
             regs: regs,
-            number: number,
-            delivery: Delivery::NoDelivery,
-            written: Chosen::Nothing,
-            read: Chosen::Nothing,
+            reply: refused,
         };
     }
     let owes = plan.owes;
@@ -164,9 +160,13 @@ pub fn advance(
     let delivery = carried.delivery;
     Advanced {
         regs: next,
-        number: 0,
-        delivery: delivery,
-        written: written,
-        read: read,
+        reply: Reply {
+            number: 0,
+            arrival_number: 0,
+            request_number: 0,
+            delivery: delivery,
+            written: written,
+            read: read,
+        },
     }
 }

@@ -1,5 +1,6 @@
 -- `slot` meets its contract: what is judged of every slot holds of this one, and where 3 and 2 are ruled out it goes in
 -- place with the counts that judging took.
+use borrow.Author.Needs.{needs}
 use Rattle.layout.specs.Calls.{arrivalIn}
 use Rattle.layout.specs.Views.{Arrays, arrays}
 use Rattle.arbiter_checked.proofs.Judged.{slot-refused, slot-ready, slot-advanced}
@@ -27,12 +28,16 @@ regs-in-requires c κs = tt
 judge-state-requires : tie.Need-judge-state-requires
 judge-state-requires c κs = start (c .before .before .before .before .before .before .before .before) .pre
 
+number-alone-requires : tie.Need-number-alone-requires
+number-alone-requires c κs = search needs
+
 returns : tie.Need-returns
 returns c =
-    let judged = c .before in
+    let refused = c .before in
+    let judged = refused .before in
     let s = start (registers judged) in
     slot-refused (memory s) (s .args .store .now) (registers judged .regs-in .ensures) (judged .judge-state .ensures)
-    (arrivalIn (s .args .arrival)) (c .if1 .taken)
+    (arrivalIn (s .args .arrival)) (refused .if1 .taken) (c .number-alone .ensures)
 
 advance-requires : tie.Need-advance-requires
 advance-requires c κs =
@@ -57,4 +62,11 @@ returns-2 c =
 pub slot-spec : {M : Type 1} → statement M
 slot-spec =
     tie.close
-    (tie.spec regs-in-requires judge-state-requires returns advance-requires same-length returns-2)
+    (tie.spec
+    regs-in-requires
+    judge-state-requires
+    number-alone-requires
+    returns
+    advance-requires
+    same-length
+    returns-2)

@@ -20,7 +20,7 @@ regs-in-requires : tie.Need-regs-in-requires
 regs-in-requires c κs = tt
 
 same-length : tie.Need-same-length
-same-length c = c .before .before .before .store .given
+same-length c = c .before .before .before .before .store .given
 
 -- The way back through the code.
 abbrev slotted : tie.After-regs-in → tie.After-slot
@@ -31,10 +31,11 @@ registers c = c .before .before .before .before .before .before .before .before 
 
 returns : tie.Need-returns
 returns c =
-    let done = slotted c in
+    let back = c .before in
+    let done = slotted back in
     let lent = registers done in
     by-value (lent .before .before .before .before .before .before .before .before .before .args .state) _
-    (lent .put-regs .ensures) (c .regs-in .ensures) (done .slot .ensures .0)
+    (lent .put-regs .ensures) (back .regs-in .ensures) (done .slot .ensures .0)
 
 pub slot-spec : {M : Type 1} → statement M
 slot-spec = tie.close (tie.spec put-regs-requires slot-requires regs-in-requires same-length returns)

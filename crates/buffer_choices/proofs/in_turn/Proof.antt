@@ -131,12 +131,17 @@ read-is c =
 judge-requires : tie.Need-judge-requires
 judge-requires c κs = search needs
 
+number-alone-requires : tie.Need-number-alone-requires
+number-alone-requires c κs = search needs
+
 returns : tie.Need-returns
 returns c =
-    let s = c .before .before .before in
+    let refused = c .before in
+    let s = refused .before .before .before in
     let asked-call = callIn (s .args .arrival) (s .args .request) in
     refused-says (s .args .state) (s .args .store .now) asked-call
-    (c .before .judge .ensures .number-is (s .args .store .now) refl) (c .if1 .taken)
+    (refused .before .judge .ensures .number-is (s .args .store .now) refl) (refused .if1 .taken)
+    (c .number-alone .ensures)
 
 swaps-requires : tie.Need-swaps-requires
 swaps-requires c κs = search needs
@@ -248,6 +253,7 @@ in-turn-spec =
     tie.close
     (tie.spec
     judge-requires
+    number-alone-requires
     returns
     swaps-requires
     deliver-requires

@@ -16,7 +16,7 @@ same-length : tie.Need-same-length
 same-length c = search needs
 
 returns : tie.Need-returns
-returns c = let passed = c .before .before .before in passed .idle .ensures .0
+returns c = let passed = c .before .before .before .before in passed .idle .ensures .0
 
 pub idle-spec : {M : Type 1} → statement M
 idle-spec = tie.close (tie.spec idle-requires same-length returns)

@@ -68,7 +68,7 @@ abbrev tested : tie.After-slot-arg Inv-loop μ-loop → tie.In-loop Inv-loop μ-
 tested c = c .before .before .before .before .before
 
 abbrev slot-done : tie.After-answer-word Inv-loop μ-loop → tie.After-slot Inv-loop μ-loop
-slot-done c = c .before .before .before
+slot-done c = c .before .before .before .before
 
 mul-call : tie.Need-mul-call Inv-loop μ-loop
 mul-call c =
@@ -119,7 +119,7 @@ loop-again c =
     let is-slot = says .promised ∙ read-slot (stateOf (loop .r .state)) (loop .store) call
     (arrival .arrival-in .ensures) (request .request-in .ensures) in (
       length-set (loop .answers) (loop .i) _ ∙ loop .inv .0,
-      c .before .before .store .given ∙ loop .inv .1,
+      c .before .before .before .store .given ∙ loop .inv .1,
       loop .inv .2,
       loop .inv .3,
       omega (arith, turn .loop-test .taken),
@@ -127,7 +127,7 @@ loop-again c =
           (omega (arith, turn .loop-test .taken, loop .inv .2, length-map (a .calls .now) callOf))
           (omega (arith, turn .loop-test .taken, loop .inv .3)) is-slot
           (c .answer-word .ensures
-          ∙ ap (λ (b : Answer). answerWord (b .number) (b .delivered) (b .written) (b .read)) is-slot),
+          ∙ ap (λ (b : Answer). answerWord (b .reply)) is-slot),
     )
 
 finished-requires : tie.Need-finished-requires Inv-loop μ-loop

@@ -1,5 +1,5 @@
 -- `pass` meets its contract: the quiet slots are the model's, and the one more is the model's slot on what they leave.
-use mathlib.Core.Path.{_≡_, refl}
+use mathlib.Core.Path.{_≡_}
 use native.Mathlib.Omega.{arith}
 use borrow.Author.Needs.{needs}
 use Rattle.slot_in_place.proofs.Standing as standing
@@ -30,13 +30,17 @@ pass-quiet-requires c κs =
       standing.cells-known r,
     )
 
+number-alone-requires : tie.Need-number-alone-requires
+number-alone-requires c κs = search needs
+
 returns : tie.Need-returns
 returns c =
-    let quiet = c .before in
+    let used-up = c .before in
+    let quiet = used-up .before in
     let s = start quiet in
     let says = quiet .pass-quiet .ensures in
-    let all : quiet .pass-quiet .result .count ≡ s .args .n = omega (arith, c .if1 .taken) in
-    pass-is-quiet all (quiet-counted (s .pre) says) refl refl refl refl (quiet-passed (s .pre) says .slots-pass)
+    let all : quiet .pass-quiet .result .count ≡ s .args .n = omega (arith, used-up .if1 .taken) in
+    pass-is-quiet all (quiet-counted (s .pre) says) (c .number-alone .ensures) (quiet-passed (s .pre) says .slots-pass)
     (quiet-ready (s .pre) says)
 
 add-passed : tie.Need-add-passed
@@ -85,6 +89,7 @@ pass-spec =
     tie.close
     (tie.spec
     pass-quiet-requires
+    number-alone-requires
     returns
     add-passed
     put-regs-requires

@@ -128,10 +128,10 @@ can-be-taken x arrival q t =
 
 -- A number that no refusal has is never answered.
 never : (design : Design) (x : State) (store : List ℕ) (call : Call) (bad : ℕ) → 1 ≤ bad
-    → All (λ (n : ℕ). n ≡ bad → ⊥) (refusals design x store call) → slot design x store call .number ≡ bad → ⊥
+    → All (λ (n : ℕ). n ≡ bad → ⊥) (refusals design x store call) → slot design x store call .reply .number ≡ bad → ⊥
 never design x store call bad pos f = go (slot design x store call) (outcome design x store call)
   where
-    go : (a : Answer) → RefusedOrAccepted design x store call a → a .number ≡ bad → ⊥
+    go : (a : Answer) → RefusedOrAccepted design x store call a → a .reply .number ≡ bad → ⊥
     go a (was-refused n r) e = not-first bad (refusals design x store call) pos f (r ∙ e)
     go a (was-accepted g) e = omega (arith, e)
 
@@ -158,7 +158,7 @@ module _ (design : Design) (x : State) (store : List ℕ) (arrival : Option Byte
       other : (t : Bool) (k : ℕ) → (k ≡ bad → ⊥) → when t k ≡ bad → ⊥
       other t k f = when-excluded bad t k (omega arith) (λ h. absurd (f h))
 
-  never-7 : arbiterSlot design x store arrival .number ≡ 7 → ⊥
+  never-7 : arbiterSlot design x store arrival .reply .number ≡ 7 → ⊥
   never-7 =
       never design x store call 7 (omega arith)
       (but 7 (omega arith) (omega arith) (λ h. absurd (omega (arith, h))) (λ h. taken))
@@ -170,7 +170,7 @@ module _ (design : Design) (x : State) (store : List ℕ) (arrival : Option Byte
           (λ q e. ap (nothingToTake x arrival) e
           ∙ can-be-taken x arrival q (first-at (x .sizes .Q) (canBeAsked x arrival) (x .sizes .Q) _ q e .holds))
 
-  never-6 : arbiterSlot design x store arrival .number ≡ 6 → ⊥
+  never-6 : arbiterSlot design x store arrival .reply .number ≡ 6 → ⊥
   never-6 e =
       by-test (keeps design x)
       (λ k. never design x store call 6 (omega arith)
@@ -186,12 +186,12 @@ module _ (design : Design) (x : State) (store : List ℕ) (arrival : Option Byte
           (λ q h. ap (requestUnknown x) h ∙ lt-leb (x .sizes .Q) q (choice-below x arrival q l h))
 
       go : refusal design x store call ≡ 3 → (a : Answer) → RefusedOrAccepted design x store call a
-          → a .number ≡ 6 → ⊥
+          → a .reply .number ≡ 6 → ⊥
       go three a (was-refused n r) h = omega (arith, r, three, h)
       go three a (was-accepted f) h = omega (arith, h)
 
   -- What is noted.
-  asked-is-noted : (q : ℕ) → arbiterSlot design x store arrival .number ≡ 0 → choice x arrival ≡ some q
+  asked-is-noted : (q : ℕ) → arbiterSlot design x store arrival .reply .number ≡ 0 → choice x arrival ≡ some q
       → arbiterSlot design x store arrival .state .lastAsked ≡ q
   asked-is-noted q e c =
       ap (λ (n : ℕ). lastAfter n (choice x arrival) (x .lastAsked)) e
@@ -203,15 +203,15 @@ module _ (design : Design) (x : State) (store : List ℕ) (arrival : Option Byte
 
   none-leaves-it : choice x arrival ≡ none → arbiterSlot design x store arrival .state .lastAsked ≡ x .lastAsked
   none-leaves-it c =
-      ap (λ (o : Option ℕ). lastAfter (slot design x store call .number) o (x .lastAsked)) c
-      ∙ none-noted (slot design x store call .number)
+      ap (λ (o : Option ℕ). lastAfter (slot design x store call .reply .number) o (x .lastAsked)) c
+      ∙ none-noted (slot design x store call .reply .number)
 
-  refused-leaves-it : (arbiterSlot design x store arrival .number ≡ 0 → ⊥)
+  refused-leaves-it : (arbiterSlot design x store arrival .reply .number ≡ 0 → ⊥)
       → arbiterSlot design x store arrival .state ≡ x
   refused-leaves-it = go (slot design x store call) (outcome design x store call)
     where
-      go : (a : Answer) → RefusedOrAccepted design x store call a → (a .number ≡ 0 → ⊥)
-          → noting (lastAfter (a .number) (choice x arrival) (x .lastAsked)) a .state ≡ x
+      go : (a : Answer) → RefusedOrAccepted design x store call a → (a .reply .number ≡ 0 → ⊥)
+          → noting (lastAfter (a .reply .number) (choice x arrival) (x .lastAsked)) a .state ≡ x
       go a (was-refused n r) f = refl
       go a (was-accepted g) f = absurd (f refl)
 

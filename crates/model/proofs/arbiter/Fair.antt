@@ -105,7 +105,7 @@ module _ (design : Design) where
       let k = slot-kept design x store (arbiterCall x arrival) h v in
       keeps-noted design (slot design x store (arbiterCall x arrival) .state) _
       (rw (k .same-sizes)
-      (noted-below x arrival (slot design x store (arbiterCall x arrival) .number) (v .last-below)))
+      (noted-below x arrival (slot design x store (arbiterCall x arrival) .reply .number) (v .last-below)))
       (k .kept)
 
   same-sizes : (x : State) (store : List ℕ) (arrival : Option Byte) → 1 ≤ design .cellCount (x .sizes)
@@ -118,9 +118,9 @@ module _ (design : Design) where
   chosen-more : (x : State) (store : List ℕ) (arrival : Option Byte) (a : Answer) (rest : List Step)
       → 1 ≤ design .cellCount (x .sizes) → Keeps design x → RefusedOrAccepted design x store (arbiterCall x arrival) a
       → ChosenFrom (x .sizes .Q)
-      (noting (lastAfter (a .number) (choice x arrival) (x .lastAsked)) a .state) (a .store) rest
+      (noting (lastAfter (a .reply .number) (choice x arrival) (x .lastAsked)) a .state) (a .store) rest
       → ChosenFrom (x .sizes .Q) x store
-      (stepOf x store (arbiterCall x arrival) (noting (lastAfter (a .number) (choice x arrival) (x .lastAsked)) a)
+      (stepOf x store (arbiterCall x arrival) (noting (lastAfter (a .reply .number) (choice x arrival) (x .lastAsked)) a)
       ∷ rest)
   chosen-more x store arrival a rest h v (was-refused n e) c = rw (ne-eqb (suc n) 0 (λ z. omega arith)) c
   chosen-more x store arrival a rest h v (was-accepted f) c =
@@ -237,7 +237,7 @@ front-below design x store (arrival ∷ arrivals) q v f =
   where
     go : (a : Answer) → RefusedOrAccepted design x store (arbiterCall x arrival) a
         → (Front x store (accepted (arbiterRun design x store arrivals)) q v → q < x .sizes .Q)
-        → (let b = noting (lastAfter (a .number) (choice x arrival) (x .lastAsked)) a in
+        → (let b = noting (lastAfter (a .reply .number) (choice x arrival) (x .lastAsked)) a in
         Front x store
         (accepted (stepOf x store (arbiterCall x arrival) b ∷ arbiterRun design (b .state) (b .store) arrivals)) q v)
         → q < x .sizes .Q
@@ -289,14 +289,14 @@ served-in-time limits x store arrivals q v k f = record {
 -- And a queue that can be asked has a front byte.
 has-a-front : (design : Design) (x : State) (store : List ℕ) (arrival : Option Byte)
     (arrivals : List (Option Byte)) (q : ℕ)
-    → arbiterSlot design x store arrival .number ≡ 0 → q < x .sizes .Q → canBeAsked x arrival q ≡ true
+    → arbiterSlot design x store arrival .reply .number ≡ 0 → q < x .sizes .Q → canBeAsked x arrival q ≡ true
     → (v : ℕ) × Front x store (accepted (arbiterRun design x store (arrival ∷ arrivals))) q v
 has-a-front design x store arrival arrivals q zero l t =
     go (slot design x store (arbiterCall x arrival)) (outcome design x store (arbiterCall x arrival)) zero
   where
-    go : (a : Answer) → RefusedOrAccepted design x store (arbiterCall x arrival) a → a .number ≡ 0
+    go : (a : Answer) → RefusedOrAccepted design x store (arbiterCall x arrival) a → a .reply .number ≡ 0
         → (v : ℕ)
-        × (let b = noting (lastAfter (a .number) (choice x arrival) (x .lastAsked)) a in
+        × (let b = noting (lastAfter (a .reply .number) (choice x arrival) (x .lastAsked)) a in
         Front x store
         (accepted (stepOf x store (arbiterCall x arrival) b ∷ arbiterRun design (b .state) (b .store) arrivals)) q v)
     go a (was-refused n e) z = absurd (omega (arith, z))

@@ -50,7 +50,7 @@ line-shifts [] new later n h = absurd (omega arith)
 line-shifts (o ∷ line) new later n h = ap (λ (l : List (Option Byte)). o ∷ take n l) (append-snoc line new later)
 
 delays-more : (i : Ideal) (step : Step) (slots : List Step) → 1 ≤ length (i .line)
-    → step .delivered ≡ soonest (i .line)
+    → step .reply .delivered ≡ soonest (i .line)
     → ((q : ℕ) → asks q (step .request) ≤ length (waitingWith (i .waiting) (step .arrival) q))
     → Delays (idealSlot (record { arrival = step .arrival; request = step .request }) i) slots
     → Delays i (step ∷ slots)

@@ -15,14 +15,15 @@ use Rattle.model.specs.Sizes.{Design, storeBytes}
 use Rattle.model.specs.State.{Byte, Cell, empty, held, owed, State, countOf, headBytes}
 use Rattle.model.specs.Slot.{oldestCell, deliveryOf, headWithout, moves, fullest, queueToWrite, storeWritten}
 use Rattle.model.specs.Slot.{tailWritten, ringsWritten, refillQueue, queueToRead, headRead, ringsRead, asked}
-use Rattle.model.specs.Slot.{wrote, wroteStore, refilled, headFull, Answer, accept, answer, refusal, slot}
+use Rattle.model.specs.Slot.{wrote, wroteStore, refilled, headFull, numberAlone, Answer, accept, answer}
+use Rattle.model.specs.Slot.{refusal, slot}
 use Rattle.model.specs.Calls.{idle}
 use Rattle.model.specs.Idle.{quietly, NothingToMove, Quiet}
 use Rattle.model.proofs.basics.Tests.{by-test}
 use Rattle.model.proofs.meaning.Steps.{move-writes-fullest, no-move-no-write, move-reads-scan, no-move-no-read}
 use Rattle.model.proofs.basics.States.{same-state}
 use Rattle.model.proofs.one_slot.Rules.{Keeps, keeps-holds}
-use Rattle.model.proofs.one_slot.Calls.{answer-is}
+use Rattle.model.proofs.one_slot.Calls.{reply-is, answer-is}
 
 -- An empty cell is nothing to the scan, at either end.
 scan-skips-first : (credits : ℕ → ℕ) (cells : List Cell) → oldestCell cells ≡ empty
@@ -60,14 +61,7 @@ phase-stays x l = sym (ap (λ (k : ℕ). k % x .sizes .b) (add-zero (x .phase)) 
 
 -- The answer of a quiet slot that leaves the state y.
 abbrev pub quietAnswer : State → List ℕ → Answer
-quietAnswer y store = record {
-  number = 0;
-  delivered = none;
-  written = none;
-  read = none;
-  state = y;
-  store = store;
-}
+quietAnswer y store = record { reply = numberAlone 0; state = y; store = store }
 
 -- One quiet slot.
 module _ (design : Design) (x : State) (store : List ℕ) (kept : Keeps design x)
@@ -128,9 +122,10 @@ module _ (design : Design) (x : State) (store : List ℕ) (kept : Keeps design x
   pub quiet-slot : slot design x store idle ≡ quietAnswer (quietly 1 x) store
   quiet-slot =
       ap (λ (n : ℕ). answer n x store idle) quiet-accepted
-      ∙ answer-is (quietAnswer (quietly 1 x) store) (accept x store idle) refl
+      ∙ answer-is (quietAnswer (quietly 1 x) store) (accept x store idle)
+      (reply-is (numberAlone 0) (accept x store idle .reply) refl refl refl
       (ap (λ (cell : Cell). deliveryOf cell (x .head)) leaving)
       none-written
-      none-read
+      none-read)
       quiet-state
       (ap (λ (o : Option ℕ). storeWritten o (asked x idle) store) none-written)

@@ -46,12 +46,7 @@ one-more design x y z store m e p = record {
   state-is = ap (λ (a : Answer). lastState design (a .state) (a .store) (idles m)) e ∙ p .state-is;
   store-is = ap (λ (a : Answer). lastStore design (a .state) (a .store) (idles m)) e ∙ p .store-is;
   steps-quiet = (
-    record {
-      accepted = ap (λ (a : Answer). a .number) e;
-      no-delivery = ap (λ (a : Answer). a .delivered) e;
-      no-write = ap (λ (a : Answer). a .written) e;
-      no-read = ap (λ (a : Answer). a .read) e;
-    },
+    ap (λ (a : Answer). a .reply) e,
     subst (λ (a : Answer). All QuietStep (run design (a .state) (a .store) (idles m))) (sym e) (p .steps-quiet),
   );
   kept = p .kept;

@@ -10,7 +10,7 @@ use borrow.Author.Tests.{ne-eqb, eqb-false}
 use Rattle.model.specs.Basics.{All}
 use Rattle.model.specs.Sizes.{Design}
 use Rattle.model.specs.State.{State, tailBytes, headBytes}
-use Rattle.model.specs.Slot.{Call, Answer, answer, refuse, refusal, slot}
+use Rattle.model.specs.Slot.{Call, Reply, Answer, answer, refuse, refusal, slot}
 use Rattle.model.specs.Calls.{idle, idles}
 use Rattle.model.specs.Lists.{run, lastState, lastStore}
 use Rattle.model.specs.Idle.{QuietStep, leadingEmpties, moveDue, quietOf, quietFirst, stretchLength, lastAnswer}
@@ -20,10 +20,10 @@ use Rattle.model.proofs.idle.QuietSlots.{idles-parts}
 
 module _ (design : Design) (x : State) (store : List ℕ) where
   -- A slot answers with the number of its refusal.
-  refusal-told : (call : Call) → slot design x store call .number ≡ refusal design x store call
+  refusal-told : (call : Call) → slot design x store call .reply .number ≡ refusal design x store call
   refusal-told call = go (refusal design x store call)
     where
-      go : (n : ℕ) → answer n x store call .number ≡ n
+      go : (n : ℕ) → answer n x store call .reply .number ≡ n
       go zero = refl
       go (suc n) = refl
 
@@ -40,14 +40,14 @@ module _ (design : Design) (x : State) (store : List ℕ) where
       none-quiet : (k : ℕ) → (refusal design x store idle ≡ 0 → ⊥) → All QuietStep (run design x store (idles k))
           → k ≡ 0
       none-quiet zero refused all = refl
-      none-quiet (suc k) refused all = absurd (refused (sym (refusal-told idle) ∙ all .0 .accepted))
+      none-quiet (suc k) refused all = absurd (refused (sym (refusal-told idle) ∙ ap (λ (r : Reply). r .number) (all .0)))
 
   -- Where the first is refused, a stretch is one slot.
   pub stretch-refused : (k n : ℕ) → slot design x store idle ≡ refuse k x store → (k ≡ 0 → ⊥)
       → stretchLength design x store n ≡ min n 1
   stretch-refused k n refused other =
       rw (ne-eqb (refusal design x store idle) 0
-      (λ e. other (sym (ap (λ (a : Answer). a .number) refused) ∙ refusal-told idle ∙ e)))
+      (λ e. other (sym (ap (λ (a : Answer). a .reply .number) refused) ∙ refusal-told idle ∙ e)))
 
   pub last-is-slot : (n : ℕ) → 1 ≤ n
       → lastAnswer design x store n

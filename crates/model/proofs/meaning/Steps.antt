@@ -39,7 +39,7 @@ pub leaves-first : (x : State) (call : Call) → joined x call .cells ≡ drop 1
 leaves-first x call = refl
 
 pub delivers-as-handed-in : (x : State) (store : List ℕ) (call : Call)
-    → accept x store call .delivered ≡ deliveryOf (oldestCell (x .cells)) (x .head)
+    → accept x store call .reply .delivered ≡ deliveryOf (oldestCell (x .cells)) (x .head)
 delivers-as-handed-in x store call = refl
 
 -- 3. "A byte asked for while in the tail travels in its cell and never goes to slow store": it leaves the tail.

@@ -187,7 +187,7 @@ module _ (limits : Limits) (x : State) (store : List ℕ) (call : Call) (good : 
 -- A slot on a good state: its number, and the state that it leaves.
 pub record GoodSlot (limits : Limits) (x : State) (store : List ℕ) (a : Answer) : Type 0 where
   pub good : Good limits (a .state)
-  pub low : a .number ≤ 7
+  pub low : a .reply .number ≤ 7
   pub same-sizes : a .state .sizes ≡ x .sizes
   pub same-length : length (a .store) ≡ length store
 

@@ -1,18 +1,28 @@
--- An answer is its parts: `answer-is`.
+-- What a slot tells is its parts, `reply-is`, and an answer is what it tells, a state and a store, `answer-is`.
 use mathlib.Core.Path.{_≡_}
 use mathlib.Core.List.{List}
 use mathlib.Core.Option.{Option}
 use Prim.Native.Nat.{ℕ}
 use Rattle.model.specs.State.{Byte, State}
-use Rattle.model.specs.Slot.{Answer}
+use Rattle.model.specs.Slot.{Reply, Answer}
 
-pub answer-is : (a c : Answer) → c .number ≡ a .number → c .delivered ≡ a .delivered → c .written ≡ a .written
-    → c .read ≡ a .read → c .state ≡ a .state → c .store ≡ a .store → c ≡ a
-answer-is a c e₁ e₂ e₃ e₄ e₅ e₆ =
+pub reply-is : (r t : Reply) → t .number ≡ r .number → t .arrivalNumber ≡ r .arrivalNumber
+    → t .requestNumber ≡ r .requestNumber → t .delivered ≡ r .delivered → t .written ≡ r .written → t .read ≡ r .read
+    → t ≡ r
+reply-is r t e₁ e₂ e₃ e₄ e₅ e₆ =
     let parts-alike :
-    made (c .number) (c .delivered) (c .written) (c .read) (c .state) (c .store)
-    ≡ made (a .number) (a .delivered) (a .written) (a .read) (a .state) (a .store) = cc in
+    made (t .number) (t .arrivalNumber) (t .requestNumber) (t .delivered) (t .written) (t .read)
+    ≡ made (r .number) (r .arrivalNumber) (r .requestNumber) (r .delivered) (r .written) (r .read) = cc in
     parts-alike
   where
-    made : ℕ → Option Byte → Option ℕ → Option ℕ → State → List ℕ → Answer
-    made n d w r x st = record { number = n; delivered = d; written = w; read = r; state = x; store = st }
+    made : ℕ → ℕ → ℕ → Option Byte → Option ℕ → Option ℕ → Reply
+    made n a q d w f =
+        record { number = n; arrivalNumber = a; requestNumber = q; delivered = d; written = w; read = f }
+
+pub answer-is : (a c : Answer) → c .reply ≡ a .reply → c .state ≡ a .state → c .store ≡ a .store → c ≡ a
+answer-is a c e₁ e₂ e₃ =
+    let parts-alike : made (c .reply) (c .state) (c .store) ≡ made (a .reply) (a .state) (a .store) = cc in
+    parts-alike
+  where
+    made : Reply → State → List ℕ → Answer
+    made r x st = record { reply = r; state = x; store = st }

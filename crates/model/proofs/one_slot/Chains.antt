@@ -71,7 +71,7 @@ links design (arbiter-slot {x = x} {store = store} {a = a} {steps = steps} {last
     linked : Links design (a .state) (a .store) steps last → Links design x store (stepOf x store call a ∷ steps) last
     linked l =
         subst (λ (b : Answer). Links design x store (stepOf x store call b ∷ steps) last) (sym p)
-        (link call _ (noted-below x arrival (slot design x store call .number))
+        (link call _ (noted-below x arrival (slot design x store call .reply .number))
         (subst (λ (b : Answer). Links design (b .state) (b .store) steps last) p l))
 
 -- A list of calls, and a chain from what it leaves, are a chain.

@@ -21,9 +21,9 @@ use Rattle.model.proofs.one_slot.Kept.{placed-outside, write-taken, val
 -- `not-written`: a slot that writes no block changes no byte. `outside`: one that does changes none outside the block.
 -- `beyond`: no slot changes a byte beyond Q × K × b.
 pub record StoreElsewhere (x : State) (store : List ℕ) (a : Answer) : Type 0 where
-  pub not-written : a .written ≡ none → a .store ≡ store
+  pub not-written : a .reply .written ≡ none → a .store ≡ store
   pub outside :
-      (q : ℕ) → a .written ≡ some q
+      (q : ℕ) → a .reply .written ≡ some q
       → (i : ℕ) → ((blockPlace (x .sizes) q (nextBlock x q) ≤ i) ×
       (i < blockPlace (x .sizes) q (nextBlock x q) + x .sizes .b) → ⊥)
       → getD (a .store) i 0 ≡ getD store i 0

@@ -48,7 +48,7 @@ run-length design x store (call ∷ calls) = ap suc (run-length design _ _ calls
 pub accepted-few : (steps : List Step) → length (accepted steps) ≤ length steps
 accepted-few [] = omega arith
 accepted-few (step ∷ steps) =
-    by-test (eqb (step .number) 0)
+    by-test (eqb (step .reply .number) 0)
     (λ t. rw t (omega (arith, accepted-few steps)))
     (λ t. rw t (omega (arith, accepted-few steps)))
 

@@ -31,23 +31,31 @@ number-judged c = judged-state _ _ (c .judge-state .ensures .0)
 judge-state-requires : tie.Need-judge-state-requires
 judge-state-requires c κs = c .before .before .before .before .before .before .before .before .before .pre
 
+number-alone-requires : tie.Need-number-alone-requires
+number-alone-requires c κs = search needs
+
 returns : tie.Need-returns
 returns c =
-    let s = start (c .before) in
+    let s = start (c .before .before) in
     let a = s .args in
-    let says = c .before .judge-state .ensures in (
-      none-idled _ (a .store .now) (a .n) (c .if1 .taken),
+    let says = c .before .before .judge-state .ensures in (
+      none-idled _ (a .store .now) (a .n) (c .before .if1 .taken) (c .number-alone .ensures),
       leaves-same (a .regs) (memory s) (a .store .now) (says .0) (says .1) (s .pre),
     )
 
+number-alone-requires-2 : tie.Need-number-alone-requires-2
+number-alone-requires-2 c κs = search needs
+
 returns-2 : tie.Need-returns-2
 returns-2 c =
-    let judged = c .before .before in
+    let refused = c .before in
+    let judged = refused .before .before in
     let s = start judged in
     let a = s .args in
     let says = judged .judge-state .ensures in (
-      not-idled _ (a .store .now) (a .n) (number-judged judged) (c .before .if1 .left) (c .if2 .taken),
-      leaves-refused (a .regs) (memory s) (a .store .now) (says .0) (says .1) (c .if2 .taken),
+      not-idled _ (a .store .now) (a .n) (number-judged judged) (refused .before .if1 .left) (refused .if2 .taken)
+          (c .number-alone2 .ensures),
+      leaves-refused (a .regs) (memory s) (a .store .now) (says .0) (says .1) (refused .if2 .taken),
     )
 
 pass-requires : tie.Need-pass-requires
@@ -80,4 +88,12 @@ returns-3 c =
 pub idle-spec : {M : Type 1} → statement M
 idle-spec =
     tie.close
-    (tie.spec judge-state-requires returns returns-2 pass-requires same-length returns-3)
+    (tie.spec
+    judge-state-requires
+    number-alone-requires
+    returns
+    number-alone-requires-2
+    returns-2
+    pass-requires
+    same-length
+    returns-3)

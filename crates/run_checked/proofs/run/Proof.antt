@@ -1,9 +1,10 @@
 -- `run` meets its contract: what is judged of every slot holds of each in the list, and where 3 and 2 are ruled out the
 -- list is run in place.
-use mathlib.Core.Path.{sym, _∙_}
+use mathlib.Core.Path.{ap, sym, _∙_}
 use lib.ListN.{length}
 use borrow.Author.Needs.{needs}
 use Rattle.layout.specs.Views.{Arrays, arrays, regsIn, stateIn}
+use Rattle.run_words.specs.Words.{answerWord}
 use Rattle.slot_checked.proofs.Judging.{judged-state}
 use Rattle.slot_checked.proofs.Clearing.{ready-counted, leaves-refused, leaves-ready, judged-lent}
 use Rattle.run_checked.proofs.Runs.{part-long, part-fits, ran-refused, ran-in-place}
@@ -38,6 +39,9 @@ judge-state-requires : tie.Need-judge-state-requires
 judge-state-requires c κs =
     start (counted (c .before .before .before .before .before .before .before .before)) .pre
 
+number-alone-requires : tie.Need-number-alone-requires
+number-alone-requires c κs = search needs
+
 answer-word-requires : tie.Need-answer-word-requires
 answer-word-requires c κs = search needs
 
@@ -51,7 +55,8 @@ returns : tie.Need-returns
 returns c =
     let filled = c .before .before in
     let word = filled .before .before in
-    let test = word .before in
+    let alone = word .before in
+    let test = alone .before in
     let judged = test .before in
     let read = registers judged in
     let s = start (counted read) in
@@ -60,7 +65,8 @@ returns c =
     let x = stateIn regs (memory s) in
     let says = judged-lent (read .regs-in .ensures) (memory s) (a .store .now) (judged .judge-state .ensures) in (
       ran-refused x (a .calls .now) (a .answers .now) (a .store .now) (counted read .smaller .ensures)
-          (judged-state x (length (a .store .now)) (says .0)) (test .if1 .taken) (word .answer-word .ensures)
+          (judged-state x (length (a .store .now)) (says .0)) (test .if1 .taken)
+          (word .answer-word .ensures ∙ ap answerWord (alone .number-alone .ensures))
           (filled .fill .ensures),
       says .0,
       leaves-refused regs (memory s) (a .store .now) (says .0) (says .1) (test .if1 .taken),
@@ -119,6 +125,7 @@ run-spec =
     smaller-requires
     regs-in-requires
     judge-state-requires
+    number-alone-requires
     answer-word-requires
     fill-requires
     same-length

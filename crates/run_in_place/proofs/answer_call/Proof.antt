@@ -22,7 +22,7 @@ same-length c = search needs
 
 -- The way back through the code.
 abbrev advanced : tie.After-answer-word → tie.After-advance
-advanced c = c .before .before .before .before
+advanced c = c .before .before .before .before .before
 
 abbrev request-read : tie.After-advance → tie.After-request-in
 request-read c = c .before .before .before .before .before .before .before .before .before .before

@@ -41,10 +41,13 @@ memory s =
 regs-in-requires : tie.Need-regs-in-requires Inv-loop μ-loop
 regs-in-requires c κs = tt
 
+number-alone-requires : tie.Need-number-alone-requires Inv-loop μ-loop
+number-alone-requires c κs = search needs
+
 loop-holds : tie.Need-loop-holds Inv-loop μ-loop
 loop-holds c =
-    let s = c .before .before .before .before .before in
-    let read = c .regs-in .ensures in (
+    let s = c .before .before .before .before .before .before in
+    let read = c .before .regs-in .ensures in (
       lent-ready read (s .pre .0),
       run-starts _ _ _ (ap (λ (n : Regs). stateIn n (memory s)) read),
       refl,
@@ -63,7 +66,7 @@ abbrev tested : tie.After-answer-call-arg9 Inv-loop μ-loop → tie.In-loop Inv-
 tested c = lent (c .before .before)
 
 abbrev start : tie.In-loop Inv-loop μ-loop → tie.Start Inv-loop μ-loop
-start c = c .before .before .before .before .before .before .before
+start c = c .before .before .before .before .before .before .before .before
 
 mul-answer-call : tie.Need-mul-answer-call Inv-loop μ-loop
 mul-answer-call c =
@@ -127,20 +130,20 @@ abbrev ended : tie.After-put-regs Inv-loop μ-loop → tie.After-loop Inv-loop �
 ended c = c .before .before .before
 
 same-length : tie.Need-same-length Inv-loop μ-loop
-same-length c = ended c .before .loop .inv .2
+same-length c = ended (c .before) .before .loop .inv .2
 
 same-length-2 : tie.Need-same-length-2 Inv-loop μ-loop
-same-length-2 c = ended c .before .loop .inv .3
+same-length-2 c = ended (c .before) .before .loop .inv .3
 
 returns : tie.Need-returns Inv-loop μ-loop
 returns c =
-    let end = ended c in
-    let s = end .before .before .before .before .before .before .before in
+    let end = ended (c .before) in
+    let s = end .before .before .before .before .before .before .before .before in
     let loop = end .before .loop in
     let inv = loop .inv in
     let memory = arrays (loop .tail) (loop .head) (loop .cells) (loop .firsts) (loop .stored) in
     let all = length-map (s .args .calls .now) callOf in
-    let put = c .put-regs .ensures in (
+    let put = c .before .put-regs .ensures in (
       run-ends (inv .1) (omega (arith, all, end .loop-test .left)) (ap (λ (n : Regs). stateIn n memory) put),
       lent-ready put (inv .0),
       call-put put _
@@ -155,6 +158,7 @@ run-calls-spec =
     Inv-loop
     μ-loop
     regs-in-requires
+    number-alone-requires
     loop-holds
     mul-answer-call
     shared-slice-read-answer-call

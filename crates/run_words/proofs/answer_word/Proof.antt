@@ -5,6 +5,9 @@ use Rattle.run_words.specs.Words.{answerWord}
 use Rattle.run_words.proofs.answer_word.Statement.{statement}
 use Rattle.run_words.proofs.answer_word.Tie as tie
 
+cast-result : tie.Need-cast-result
+cast-result c = search needs
+
 mul-result : tie.Need-mul-result
 mul-result c = search needs
 
@@ -46,6 +49,7 @@ pub answer-word-spec : {M : Type 1} → statement M
 answer-word-spec =
     tie.close
     (tie.spec
+    cast-result
     mul-result
     chosen-bits-requires
     mul-result-2

@@ -31,7 +31,7 @@ abbrev turn : tie.After-pass-arg9 Inv-loop μ-loop → tie.In-loop Inv-loop μ-l
 turn c = c .before .before .before .before .before .before .before .before .before .before
 
 abbrev passed : tie.After-slice-known4 Inv-loop μ-loop → tie.After-pass Inv-loop μ-loop
-passed c = c .before .before .before .before .before .before .before .before
+passed c = c .before .before .before .before .before .before .before .before .before
 
 some-left : (c : tie.In-loop Inv-loop μ-loop) → 1 ≤ c .before .loop .left
 some-left c = omega (arith, c .loop-test .taken)
@@ -41,18 +41,18 @@ pass-requires c κs = turn c .before .loop .inv .ready
 
 sub-before-last : tie.Need-sub-before-last Inv-loop μ-loop
 sub-before-last c =
-    let stretch = c .before .before .before in
+    let stretch = c .before .before .before .before in
     omega (arith, stretch .pass .ensures .stretch .passed-is, some-left (turn (stretch .before)))
 
 add-before-last : tie.Need-add-before-last Inv-loop μ-loop
 add-before-last c =
-    let stretch = c .before .before .before .before in
+    let stretch = c .before .before .before .before .before in
     let here = turn (stretch .before) in
     omega (arith, before-fits (stretch .pass .ensures) (some-left here) (here .before .loop .inv .room))
 
 put-answer-requires : tie.Need-put-answer-requires Inv-loop μ-loop
 put-answer-requires c κs =
-    let stretch = c .before .before .before .before .before in
+    let stretch = c .before .before .before .before .before .before in
     let here = turn (stretch .before) in
     stretch-answer-fits (stretch .pass .ensures) (some-left here) (here .before .loop .inv .room)
 
@@ -75,7 +75,7 @@ loop-again c =
     let printed = c .before .before in
     going-on (loop .inv) parts
     (stretch-runs says (some-left here) (loop .reached .slots) (printed .put-answer .ensures) refl refl refl)
-    (printed .before .before .before .before .before .store .given) (c .before .output .given)
+    (printed .before .before .before .before .before .before .store .given) (c .before .output .given)
 
 same-length : tie.Need-same-length Inv-loop μ-loop
 same-length c = c .before .loop .inv .same-store

@@ -3,6 +3,7 @@ use mathlib.Core.Path.{refl}
 use native.Mathlib.Omega.{arith}
 use borrow.Author.Needs.{needs}
 use Rattle.model.specs.Slot.{Call}
+use Rattle.model.proofs.one_slot.Calls.{reply-is}
 use Rattle.layout.specs.Calls.{callIn}
 use Rattle.slot_in_place.proofs.Standing as standing
 use Rattle.slot_in_place.proofs.Deciding as deciding
@@ -42,13 +43,18 @@ decide-requires c κs =
       standing.tails-small r,
     )
 
+number-alone-requires : tie.Need-number-alone-requires
+number-alone-requires c κs = search needs
+
 returns : tie.Need-returns
 returns c =
-    let plan = c .before in
+    let refused = c .before in
+    let plan = refused .before in
     let s = start plan in
     let number = deciding.number-is (s .pre) (asked-call s) (plan .decide .ensures) in (
       record {
-        answer-is = standing.refused-slot (s .pre) (asked-call s) _ (c .if1 .taken) number;
+        answer-is = standing.refused-slot (s .pre) (asked-call s) _ (refused .if1 .taken) number
+            (c .number-alone .ensures);
         ready = s .pre;
       },
       λ f. (refl, refl),
@@ -103,8 +109,8 @@ returns-2 c =
     let carried = carried-out .carry .ensures in
     let all = deciding.decided r (asked-call s) says none in (
       record {
-        answer-is = standing.accepted-slot r (asked-call s) (all .accepted) carried refl (carried .delivery-is)
-            (all .written-is) (all .read-is) refl refl;
+        answer-is = standing.accepted-slot r (asked-call s) (all .accepted) carried
+            (reply-is _ _ refl refl refl (carried .delivery-is) (all .written-is) (all .read-is)) refl refl;
         ready = standing.carried-ready r (asked-call s) (all .accepted) carried
             (deciding.counted r (asked-call s) says none (counted .turn .ensures));
       },
@@ -116,6 +122,7 @@ advance-spec =
     tie.close
     (tie.spec
     decide-requires
+    number-alone-requires
     returns
     element-copy-out-cell
     turn-requires

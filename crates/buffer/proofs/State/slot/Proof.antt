@@ -7,6 +7,7 @@ use native.Mathlib.Omega.{arith}
 use borrow.Author.Needs.{needs}
 use lib.ListN.{length}
 use Rattle.model.specs.Slot.{Call}
+use Rattle.model.proofs.one_slot.Calls.{reply-is}
 use Rattle.layout.proofs.Entries.{bytes-length}
 use Rattle.layout.specs.Calls.{chosenIn, callIn}
 use Rattle.layout.specs.Views.{Long}
@@ -71,11 +72,16 @@ decision c = planned c .plan .ensures .decided (c .if1 .left) (store (start (pla
 plan-requires : tie.Need-plan-requires
 plan-requires c κs = search needs
 
+number-alone-requires : tie.Need-number-alone-requires
+number-alone-requires c κs = search needs
+
 returns : tie.Need-returns
 returns c =
-    let plan = c .before in
+    let refused = c .before in
+    let plan = refused .before in
     let s = start plan in
-    refused-says (state s) (store s) (call s) (plan .plan .ensures .number-is (store s) refl) (c .if1 .taken)
+    refused-says (state s) (store s) (call s) (plan .plan .ensures .number-is (store s) refl) (refused .if1 .taken)
+    (c .number-alone .ensures)
 
 element-copy-out-cell : tie.Need-element-copy-out-cell
 element-copy-out-cell c = search needs
@@ -265,14 +271,14 @@ returns-2 c =
     let s5 = full .arrive2 .ensures in
     let s6 = wrote .write .ensures in
     let s7 = read .read .ensures in
-    carried-says (state s) (store s) (call s) (d .accepted) refl
+    carried-says (state s) (store s) (call s) (d .accepted)
+    (reply-is _ _ refl refl refl (steps.delivered regs m long d early s1 s2) (d .written-is) (d .read-is))
     (steps.state-after regs m long d early s1 s2 s3 s4 late s5 s6 s7
     (phase .next-phase .ensures)
     (tail-mark .larger .ensures)
     (head-mark .larger2 .ensures)
     (steps.joined-length regs m long d early s1 s2)
     (sym (bytes-length _ _ (s7 .fits)) ∙ ap length (steps.head-2 regs m long d early s1 s2 s3 s4 late s5 s6 s7)))
-    (steps.delivered regs m long d early s1 s2) (d .written-is) (d .read-is)
     (steps.store-1 regs m long d early s1 s2 s3 s4 late s5 s6)
 
 pub slot-spec : {M : Type 1} → statement M
@@ -280,6 +286,7 @@ slot-spec =
     tie.close
     (tie.spec
     plan-requires
+    number-alone-requires
     returns
     element-copy-out-cell
     deliver-requires

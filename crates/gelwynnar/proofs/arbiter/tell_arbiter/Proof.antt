@@ -12,7 +12,7 @@ asked-fields-requires c κs = tt
 returns : tie.Need-returns
 returns c =
     let told = c .before in
-    told-both (told .before .args .answer) (told .tell .ensures) (c .asked-fields .ensures .0)
+    told-both (told .before .before .args .answer) (told .tell .ensures) (c .asked-fields .ensures .0)
     (c .asked-fields .ensures .1)
 
 pub tell-arbiter-spec : {M : Type 1} → statement M

@@ -22,14 +22,14 @@ tell-requires : tie.Need-tell-requires
 tell-requires c κs = tt
 
 same-length : tie.Need-same-length
-same-length c = c .before .before .before .before .before .store .given
+same-length c = c .before .before .before .before .before .before .store .given
 
 returns : tie.Need-returns
 returns c =
-    let passed = c .before .before .before .before .before .before in
+    let passed = c .before .before .before .before .before .before .before in
     let read = passed .before .before .before .before .before .before .before .before .before .before in
     idled (memory (read .before .before .before)) _ (read .regs-in .ensures) (passed .idle .ensures)
-    (c .before .put-regs .ensures) (c .tell .ensures)
+    (c .before .before .put-regs .ensures) (c .tell .ensures)
 
 pub gel-idle-spec : {M : Type 1} → statement M
 gel-idle-spec =

@@ -1,6 +1,8 @@
 -- `gel_slot` meets its contract: what is judged of every slot holds of this one, and where 3 and 2 are ruled out it is
 -- a step with the counts that judging took.
+use mathlib.Core.Path.{ap, _∙_}
 use Rattle.layout.specs.Views.{Arrays, arrays}
+use Rattle.gelwynnar.specs.Slots.{told}
 use Rattle.gelwynnar.proofs.Lent.{slot-refused, step-ready, slot-stepped}
 use Rattle.gelwynnar.proofs.slots.gel_slot.Statement.{statement}
 use Rattle.gelwynnar.proofs.slots.gel_slot.Tie as tie
@@ -26,16 +28,21 @@ regs-in-requires c κs = tt
 judge-state-requires : tie.Need-judge-state-requires
 judge-state-requires c κs = start (c .before .before .before .before .before .before .before .before) .pre
 
+number-alone-requires : tie.Need-number-alone-requires
+number-alone-requires c κs = tt
+
 tell-requires : tie.Need-tell-requires
 tell-requires c κs = tt
 
 returns : tie.Need-returns
 returns c =
-    let judged = c .before .before in
+    let alone = c .before in
+    let refused = alone .before in
+    let judged = refused .before in
     let says = judged .judge-state .ensures in
     let s = start (registers judged) in
     slot-refused (memory s) (s .args .store .now) (registers judged .regs-in .ensures) says
-    (c .before .if1 .taken) (c .tell .ensures)
+    (refused .if1 .taken) (c .tell .ensures ∙ ap told (alone .number-alone .ensures))
 
 gel-step-requires : tie.Need-gel-step-requires
 gel-step-requires c κs =
@@ -62,4 +69,12 @@ returns-2 c =
 pub gel-slot-spec : {M : Type 1} → statement M
 gel-slot-spec =
     tie.close
-    (tie.spec regs-in-requires judge-state-requires tell-requires returns gel-step-requires same-length returns-2)
+    (tie.spec
+    regs-in-requires
+    judge-state-requires
+    number-alone-requires
+    tell-requires
+    returns
+    gel-step-requires
+    same-length
+    returns-2)

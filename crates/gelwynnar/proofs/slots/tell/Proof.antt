@@ -1,5 +1,5 @@
 -- `tell` meets its contract: each field by itself.
-use Rattle.layout.specs.Calls.{chosenIn, deliveryIn}
+use Rattle.layout.specs.Calls.{replyIn}
 use Rattle.gelwynnar.proofs.Lent.{told-fields}
 use Rattle.gelwynnar.proofs.slots.tell.Statement.{statement}
 use Rattle.gelwynnar.proofs.slots.tell.Tie as tie
@@ -17,8 +17,7 @@ returns : tie.Need-returns
 returns c =
     let wrote = c .before in
     let gave = wrote .before in
-    let a = gave .before .args in
-    told-fields (deliveryIn (a .delivery)) (chosenIn (a .written)) (chosenIn (a .read))
+    told-fields (replyIn (gave .before .args .reply))
     (gave .delivery-fields .ensures) (wrote .chosen-fields .ensures) (c .chosen-fields2 .ensures)
 
 pub tell-spec : {M : Type 1} → statement M

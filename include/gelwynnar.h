@@ -11,8 +11,10 @@
  *
  * Q queues, 1 to 64; b bytes to a block, 1 to 128; K blocks of slow store to a queue, 1 to 255; Q(b - 1) at most 2,016.
  * From a fresh buffer a byte that is asked for leaves exactly L = Q(b - 1) + 1 accepted slots later, whatever happens.
+ * A slot that ran without a half is an accepted one.
  *
- * The numbers are the paper's. 0 is accepted; a refusal did not happen, and is
+ * The numbers are the paper's. 0 is accepted. 5 and 7 drop their half of a slot, which runs without it (`dropped`,
+ * below); with any other number a call did nothing at all.
  *    1  sizes outside the limits                       8  the byte that is due is not in the head cache
  *    2  the store is under Q x K x b bytes             9  the arrival does not fit the tail cache
  *    3  the state breaks a rule                       10  the block to read does not fit the head cache
@@ -27,7 +29,8 @@
  *                                                     19  fewer than 8 queues for a capture
  * 5 does not come to a slot that asks for the same queue and takes an older byte of it from the tail cache, which makes
  * room for the arrival. Where the byte that it asks for is in slow store or in the head cache, or would be the arriving
- * one, 5 comes.
+ * one, 5 comes. 7 is judged without an arrival that was dropped, so that both may come together. 4 and 6 look at the
+ * call as it came, 9 and 10 at what is left of it. What stops a slot is its only answer: no 5 or 7 comes with it.
  * 8, 9 and 10 come on states that were handed in, and never from a fresh buffer. */
 #ifndef GELWYNNAR_H
 #define GELWYNNAR_H
@@ -47,8 +50,10 @@ extern "C" {
  * as in 1:
  *    2: some slots are accepted that 1 refused with 5 (see there);
  *    3: a ninth register, the queue that the round robin arbiter asked last; and gel_arbiter_slot and gel_arbiter_step,
- *       in which it chooses the request. */
-#define GEL_VERSION 3
+ *       in which it chooses the request;
+ *    4: 5 and 7 no longer refuse a slot: it runs without that half, answers 0, and `dropped` tells what it dropped;
+ *       gel_judge answers a gel_judgement, which tells it too. A script prints a line for each. */
+#define GEL_VERSION 4
 
 uint32_t gel_version(void);
 
@@ -102,11 +107,11 @@ static inline uint64_t gel_both(uint16_t queue, uint8_t value, uint16_t asked) {
     return gel_arrive(queue, value) | gel_ask(asked);
 }
 
-/* What a slot answers. Where `number` is not 0, the slot did not happen and all other fields are 0. `dropped` and
- * `slots_left` are 0 in this version. */
+/* What a slot answers. Where `number` is not 0, the slot did not happen and all other fields are 0. A half that is
+ * dropped never came: the slot is that of the call without it, and is accepted. `slots_left` is 0 in this version. */
 typedef struct gel_answer {
-    uint8_t number;      /* 0, or the refusal */
-    uint8_t dropped;     /* bit 0: the arrival was dropped, bit 1: the request was */
+    uint8_t number;      /* 0, or what stopped the slot; never 5 or 7 */
+    uint8_t dropped;     /* bit 0: the arrival was dropped (5), bit 1: the request was (7) */
     uint8_t delivers;    /* 1 where a byte leaves: `value` of `queue`; else 0, and so are they */
     uint8_t writes;      /* 1 where a block of `written` went to the slow store */
     uint8_t reads;       /* 1 where a block of `read` came from it */
@@ -134,6 +139,12 @@ static inline gel_answer gel_answer_of(uint64_t word) {
     a.slots_left = (uint32_t)(word >> 41 & 8191);
     return a;
 }
+
+/* What is judged of a slot: `number` and `dropped` as in its answer. */
+typedef struct gel_judgement {
+    uint8_t number;
+    uint8_t dropped;
+} gel_judgement;
 
 /* What a slot answers in which the round robin arbiter chooses: as any slot, and the queue that it asked. */
 typedef struct gel_arbiter_answer {
@@ -203,9 +214,9 @@ gel_stretch gel_idle(size_t *regs, uint16_t *tail, uint16_t *head, uint32_t *cel
                      uint16_t *tails, uint16_t *heads, uint16_t *owing, size_t slots, uint8_t *store,
                      size_t store_bytes);
 
-/* The number that gel_slot would answer with a store of so many bytes. Nothing changes. */
-uint8_t gel_judge(const size_t *regs, const uint16_t *tail, const uint16_t *head, const uint32_t *cells,
-                  const uint8_t *firsts, const uint8_t *stored, uint64_t call, size_t store_bytes);
+/* The number that gel_slot would answer with a store of so many bytes, and what it would drop. Nothing changes. */
+gel_judgement gel_judge(const size_t *regs, const uint16_t *tail, const uint16_t *head, const uint32_t *cells,
+                        const uint8_t *firsts, const uint8_t *stored, uint64_t call, size_t store_bytes);
 
 /* The margin of a queue: its head bytes less its Owed cells. Below zero the queue is critical. */
 int32_t gel_margin(const size_t *regs, const uint16_t *head, const uint32_t *cells, uint16_t queue);
@@ -242,7 +253,7 @@ static inline gel_stretch gel_buffer_idle(gel_buffer *g, size_t slots, uint8_t *
     return gel_idle(g->regs, g->tail, g->head, g->cells, g->firsts, g->stored, g->tails, g->heads, g->owing, slots,
                     store, store_bytes);
 }
-static inline uint8_t gel_buffer_judge(const gel_buffer *g, uint64_t call, size_t store_bytes) {
+static inline gel_judgement gel_buffer_judge(const gel_buffer *g, uint64_t call, size_t store_bytes) {
     return gel_judge(g->regs, g->tail, g->head, g->cells, g->firsts, g->stored, call, store_bytes);
 }
 static inline int32_t gel_buffer_margin(const gel_buffer *g, uint16_t queue) {
@@ -315,7 +326,10 @@ gel_writing gel_script_write(gel_command command, uint8_t *output, size_t output
 size_t gel_script_output(size_t script_bytes);
 
 /* A script run on a store: how many bytes of lines it printed, 1 or more; or 0, with nothing touched, where the output
- * is shorter than gel_script_output of the script's bytes. */
+ * is shorter than gel_script_output of the script's bytes. The lines are `D t q v` for a byte v of queue q that leaves
+ * in slot t, `R t n` for a number n, last `E t` with the slots accepted; or `S n offset` alone for a script with a
+ * fault. A slot prints its D first, then R with 5, then R with 7, each with its own t; one that is stopped prints one
+ * R, with the t of the slot that would have run. */
 size_t gel_script_run(const uint8_t *script, size_t script_bytes, uint8_t *store, size_t store_bytes, uint8_t *output,
                       size_t output_bytes);
 
@@ -324,8 +338,8 @@ size_t gel_script_run(const uint8_t *script, size_t script_bytes, uint8_t *store
  * link type 1, which is Ethernet. A frame's bytes go to the queue of its 802.1Q priority, which is the top three bits
  * of its byte 14 (counted from 0), where its bytes 12 and 13 are 81 00 and 15 bytes or more were captured, and else to
  * queue 0. n captured bytes make a script of 5 + 3n, and an output of three times the capture's bytes always has room.
- * The script reads well, and no slot of it answers 4. gel_script_run takes scripts of at most 65,536 bytes, which is
- * 21,843 captured bytes.
+ * The script reads well, and no slot of it answers 4; an arrival to a full queue is dropped (5). gel_script_run takes
+ * scripts of at most 65,536 bytes, which is 21,843 captured bytes.
  * On a refusal the output is as it came: 1, 19, 17, 18, 16, tested in this order, so that with an output of no bytes 16
  * says that all else is good. Of a longer output the bytes behind the script stay. */
 gel_writing gel_capture_to_script(size_t queues, size_t block, size_t depth, const uint8_t *capture,

@@ -2,7 +2,7 @@
 //! nothing is allocated, and all that is searched are the lengths of the tails, once in b slots.
 //!
 //! The cells are a ring: the one that leaves makes place for the one that joins. Refill orders are a list
-//! (request 2.12). What a refusal and the kind of a cell depend on is one number of each queue, which most moves do
+//! (request 2.12). What a drop and the kind of a cell depend on is one number of each queue, which most moves do
 //! not touch. Refusals 8, 9 and 10 are not judged, since none comes from a fresh state; a debug build asserts it.
 
 mod head;
@@ -76,39 +76,43 @@ impl<const ARBITER: bool> Model for Buffer<ARBITER> {
     }
 
     #[inline(always)]
-    fn try_slot(&mut self, arrival: Arrival, request: Request, store: &mut [u8]) -> Result<u64, u8> {
+    fn try_slot(&mut self, mut arrival: Arrival, mut request: Request, store: &mut [u8]) -> Result<u64, u8> {
         // Everything is judged before anything moves.
         if store.len() < self.store_bytes {
             return Err(2);
         }
+        if arrival.is_some_and(|(queue, _)| queue as usize >= self.sizes.queues) {
+            return Err(4);
+        }
+        if request.is_some_and(|queue| queue as usize >= self.sizes.queues) {
+            return Err(6);
+        }
+        // Request 2.5: 5 and 7 drop their half, and the slot goes on without it.
+        let mut answer = 0;
         let mut swaps = false;
         if let Some((arriving, _)) = arrival {
-            if arriving as usize >= self.sizes.queues {
-                return Err(4);
-            }
             let Queue { room, unasked, .. } = self.queues[arriving as usize];
             if room == 0 {
                 // Request 2.1: the byte of the tail that the request takes makes room for the one that arrives.
                 swaps = request == Some(arriving) && unasked == 0 && !self.tail.lacks(arriving);
                 if !swaps {
-                    return Err(5);
+                    arrival = None;
+                    answer |= words::DROPPED_ARRIVAL;
                 }
             }
         }
         let mut request_is_owed = false;
         if let Some(queue) = request {
-            if queue as usize >= self.sizes.queues {
-                return Err(6);
-            }
             request_is_owed = self.queues[queue as usize].unasked > 0;
             let arrives = arrival.is_some_and(|(arriving, _)| arriving == queue);
             if !request_is_owed && !arrives && self.tail.lacks(queue) {
-                return Err(7);
+                request = None;
+                answer |= words::DROPPED_REQUEST;
             }
         }
 
         // 1. The oldest cell leaves.
-        let mut answer = match self.cells[self.oldest] {
+        answer |= match self.cells[self.oldest] {
             Cell::Empty => 0,
             Cell::Held(queue, value) => words::delivered((queue, value)),
             Cell::Owed(queue, place) => words::delivered((queue, self.head.leave(place))),

@@ -5,7 +5,7 @@
 
 use gelwynnar::{reg, Answer, ArbiterAnswer, Blocks, Cells, Counts, Head, Regs, Stretch, Tail};
 
-use crate::words::{is_arbiters, refused, Request};
+use crate::words::{is_arbiters, stopped, Request};
 use crate::{Lent, Sizes};
 
 /// One checked slot for each call.
@@ -59,14 +59,14 @@ pub fn run_then_idle(sizes: Sizes, calls: &[u64], lent: &mut Lent, idle_slots: u
     let Some(mut buffer) = Buffer::open(sizes) else { return false };
     let number = buffer.run(calls, &mut lent.answers, &mut lent.store);
     assert!(
-        number == 0 || lent.answers.iter().all(|&answer| answer == refused(number)),
+        number == 0 || lent.answers.iter().all(|&answer| answer == stopped(number)),
         "{number}, but not all"
     );
     let mut left = idle_slots;
     while left > 0 {
         let stretch = buffer.idle(left, &mut lent.store);
         if stretch.last.number != 0 {
-            // Nothing has changed, so that every other would be refused too.
+            // Nothing has changed, so that every other would be stopped too.
             break;
         }
         assert!((1..=left).contains(&stretch.passed), "{} of {left} idle slots passed", stretch.passed);
@@ -145,7 +145,7 @@ impl Buffer {
         gelwynnar::run(self.arrays(), calls, answers, store)
     }
 
-    /// At most so many idle slots, up to the first that delivers, moves or is refused.
+    /// At most so many idle slots, up to the first that delivers, moves or is stopped.
     pub fn idle(&mut self, slots: usize, store: &mut [u8]) -> Stretch {
         gelwynnar::idle(self.arrays(), slots, store)
     }

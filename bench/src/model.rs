@@ -3,7 +3,7 @@
 
 use std::hint::black_box;
 
-use crate::words::{halves, is_arbiters, refused, Arrival, Request};
+use crate::words::{halves, is_arbiters, stopped, Arrival, Request};
 use crate::{Lent, Run, RunThenIdle, Sizes};
 
 /// A buffer in natural Rust.
@@ -11,11 +11,11 @@ pub trait Model: Sized {
     /// A fresh buffer, or none where the sizes are refused.
     fn fresh(sizes: Sizes) -> Option<Self>;
 
-    /// One slot: its answer word; or the number of its refusal, and then nothing has changed.
+    /// One slot: its answer word; or the number that stops it, and then nothing has changed.
     fn try_slot(&mut self, arrival: Arrival, request: Request, store: &mut [u8]) -> Result<u64, u8>;
 
-    /// One slot in which the arbiter chooses (request 2.2): its answer word and the queue asked; or the number of its
-    /// refusal, and then nothing has changed.
+    /// One slot in which the arbiter chooses (request 2.2): its answer word and the queue asked; or the number that
+    /// stops it, and then nothing has changed.
     fn try_arbiter_slot(&mut self, arrival: Arrival, store: &mut [u8]) -> Result<(u64, Request), u8>;
 
     /// The queue that the arbiter asked last.
@@ -25,16 +25,16 @@ pub trait Model: Sized {
     /// block is read.
     fn marks(&self) -> [usize; 2];
 
-    /// The slot of a call, with an answer word for a refusal too.
+    /// The slot of a call, with an answer word also where it is stopped.
     fn slot(&mut self, call: u64, store: &mut [u8]) -> u64 {
         let (arrival, request) = halves(call);
-        self.try_slot(arrival, request, store).unwrap_or_else(refused)
+        self.try_slot(arrival, request, store).unwrap_or_else(stopped)
     }
 
     /// The same where the arbiter chooses, with the queue asked.
     fn arbiter_slot(&mut self, call: u64, store: &mut [u8]) -> (u64, Request) {
         let (arrival, _) = halves(call);
-        self.try_arbiter_slot(arrival, store).unwrap_or_else(|number| (refused(number), None))
+        self.try_arbiter_slot(arrival, store).unwrap_or_else(|number| (stopped(number), None))
     }
 
     /// The slot of a call, the caller's own or the arbiter's.

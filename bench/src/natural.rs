@@ -61,30 +61,39 @@ impl Model for Buffer {
     }
 
     #[inline(always)]
-    fn try_slot(&mut self, arrival: Arrival, request: Request, store: &mut [u8]) -> Result<u64, u8> {
-        let block = self.sizes.block;
+    fn try_slot(&mut self, mut arrival: Arrival, mut request: Request, store: &mut [u8]) -> Result<u64, u8> {
+        let Sizes { queues, block, .. } = self.sizes;
 
         // Everything is judged before anything moves.
         if store.len() < self.sizes.store() {
             return Err(2);
         }
+        if arrival.is_some_and(|(queue, _)| queue as usize >= queues) {
+            return Err(4);
+        }
+        if request.is_some_and(|queue| queue as usize >= queues) {
+            return Err(6);
+        }
+        // Request 2.5: 5 and 7 drop their half, and the slot goes on without it.
+        let mut dropped = 0;
         let mut swaps = false;
         if let Some((queue, _)) = arrival {
-            let queue = self.queues.get(queue as usize).ok_or(4)?;
-            if queue.is_full(self.sizes) {
+            if self.queues[queue as usize].is_full(self.sizes) {
                 swaps = self.swaps(arrival, request);
                 if !swaps {
-                    return Err(5);
+                    arrival = None;
+                    dropped |= words::DROPPED_ARRIVAL;
                 }
             }
         }
         let mut request_is_owed = false;
         if let Some(asked) = request {
-            let queue = self.queues.get(asked as usize).ok_or(6)?;
+            let queue = &self.queues[asked as usize];
             request_is_owed = queue.has_unasked(block);
             let arrives = arrival.is_some_and(|(queue, _)| queue == asked);
             if !request_is_owed && queue.tail.is_empty() && !arrives {
-                return Err(7);
+                request = None;
+                dropped |= words::DROPPED_REQUEST;
             }
         }
         let mut head_bytes = self.head_bytes;
@@ -132,7 +141,7 @@ impl Model for Buffer {
             Some(queue) => {
                 self.tail_bytes -= 1;
                 let value = self.queues[queue as usize].tail.pop_front();
-                Cell::Held(queue, value.expect("refusal 7 was judged"))
+                Cell::Held(queue, value.expect("7 was judged"))
             }
         };
         self.cells.push_back(youngest);
@@ -153,7 +162,8 @@ impl Model for Buffer {
         } else {
             self.phase += 1;
         }
-        Ok(delivery.map_or(0, words::delivered)
+        Ok(dropped
+            | delivery.map_or(0, words::delivered)
             | written.map_or(0, words::written)
             | read.map_or(0, words::read))
     }

@@ -1,14 +1,14 @@
-//! Lists of calls for tests, of which natural Rust tells which were taken.
+//! Lists of calls for tests, of which natural Rust tells which halves were taken.
 
 use crate::model::Model;
 use crate::natural::Buffer;
 use crate::traffic::{search, Random};
-use crate::words::{arbiters_call, call, number};
+use crate::words::{arbiters_call, call, taken};
 use crate::Sizes;
 
 /// Stretches of changing habits, from filling a few queues to emptying them. Most calls make
 /// sense, some are for any queue, and a few for a queue that does not exist. In some stretches a queue that
-/// can swap (request 2.1) is read and refilled.
+/// can swap (request 2.1) is read and refilled, and in some many halves are dropped (request 2.5).
 pub fn rough(sizes: Sizes, slots: usize, seed: u64) -> Vec<u64> {
     rough_with(sizes, slots, seed, &[0])
 }
@@ -34,15 +34,20 @@ fn rough_with(sizes: Sizes, slots: usize, seed: u64, chances: &[usize]) -> Vec<u
         let (arrivals, requests) = random.pick(&habits);
         let first = random.below(queues);
         let span = random.pick(&[1, 2, queues]);
-        // The chance in percent that a queue which can swap is read and refilled.
+        // The chances in percent that a queue which can swap is read and refilled, and that a half makes no sense.
         let refills = random.pick(&[0, 50, 100]);
+        let contrary = random.pick(&[0, 0, 0, 30]);
         let arbiters = turns.pick(chances);
         for _ in 0..1 + random.below(sizes.lookahead() + 20) {
             let mut queue = |makes_sense: &dyn Fn(usize) -> bool| match random.below(100) {
                 // As a byte 256 would be queue 0, and so would 1,024 in the ten bits that an answer has for one.
                 0 => Some(random.pick(&[queues, queues + 1, 255, 256, 1024, 65535])),
                 1..=5 => Some(random.below(queues)),
-                _ => search(queues, (first + random.below(span)) % queues, makes_sense),
+                _ => {
+                    let sought = !random.percent(contrary);
+                    let start = (first + random.below(span)) % queues;
+                    search(queues, start, |queue| makes_sense(queue) == sought)
+                }
             };
             let arriving = queue(&|queue| unasked[queue] < depth * block);
             let asked = queue(&|queue| unasked[queue] > 0);
@@ -63,13 +68,13 @@ fn rough_with(sizes: Sizes, slots: usize, seed: u64, chances: &[usize]) -> Vec<u
             let request = asked.map(|queue| queue as u16);
             let call = if is_arbiters { arbiters_call(arrival) } else { call(arrival, request) };
             let (answer, chosen) = buffer.turn(call, &mut store);
-            if number(answer) == 0 {
-                if let Some(queue) = arriving {
-                    unasked[queue] += 1;
-                }
-                if let Some(queue) = if is_arbiters { chosen } else { request } {
-                    unasked[queue as usize] -= 1;
-                }
+            let request = if is_arbiters { chosen } else { request };
+            let (taken_arrival, taken_request) = taken(answer, arrival, request);
+            if let Some((queue, _)) = taken_arrival {
+                unasked[queue as usize] += 1;
+            }
+            if let Some(queue) = taken_request {
+                unasked[queue as usize] -= 1;
             }
             calls.push(call);
         }

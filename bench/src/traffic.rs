@@ -15,7 +15,7 @@ pub enum Traffic {
     /// The same arrivals, and requests that go round the queues in order: all of them order blocks at about the
     /// same time.
     RoundRobin,
-    /// Each half with probability 1/2, for any queue: full and empty queues refuse some.
+    /// Each half with probability 1/2, for any queue: full and empty queues have some halves dropped.
     Random,
     /// Nothing, after a short prelude.
     Idle,

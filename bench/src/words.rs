@@ -35,8 +35,8 @@ pub fn is_arbiters(call: u64) -> bool {
     call & ARBITERS != 0
 }
 
-// An answer is the parts of it that there are: 0 where nothing left and nothing moved. Bits 41 to 55, slots left and
-// what was dropped, are 0.
+// An answer is the parts of it that there are: 0 where nothing left, nothing moved and nothing was dropped. Bits 41 to
+// 53, slots left, are 0.
 
 /// Bits 0 to 7 the delivered value, 8 to 17 its queue, 18 that there is one.
 pub fn delivered((queue, value): (u16, u8)) -> u64 {
@@ -53,12 +53,22 @@ pub fn read(queue: u16) -> u64 {
     1 << 40 | (queue as u64) << 30
 }
 
-/// Bits 56 to 63 the number of the refusal, and then there is no other part.
-pub fn refused(number: u8) -> u64 {
+/// Bits 54 and 55: 5 dropped the arrival, 7 dropped the request, and the slot ran without (request 2.5).
+pub const DROPPED_ARRIVAL: u64 = 1 << 54;
+pub const DROPPED_REQUEST: u64 = 1 << 55;
+
+/// Bits 56 to 63 the number that stops the slot, and then there is no other part.
+pub fn stopped(number: u8) -> u64 {
     (number as u64) << 56
 }
 
-/// The number of an answer: 0, or the refusal.
+/// The number of an answer: 0, or what stops the slot.
 pub fn number(answer: u64) -> u8 {
     (answer >> 56) as u8
+}
+
+/// What a slot with this answer took of an arrival and a request.
+pub fn taken(answer: u64, arrival: Arrival, request: Request) -> (Arrival, Request) {
+    let takes = |dropped: u64| number(answer) == 0 && answer & dropped == 0;
+    (arrival.filter(|_| takes(DROPPED_ARRIVAL)), request.filter(|_| takes(DROPPED_REQUEST)))
 }

@@ -134,8 +134,19 @@ fn request(queue: u16) -> u64 {
 
 // The parts of an answer word, read as include/gelwynnar.h gives them.
 
+/// What stops the slot, or 0.
 fn number(answer: u64) -> u64 {
     answer >> 56
+}
+
+/// The numbers of the halves that were dropped: of the arrival 5 or 0, of the request 7 or 0 (request 2.5).
+fn dropped(answer: u64) -> [u64; 2] {
+    [5 * (answer >> 54 & 1), 7 * (answer >> 55 & 1)]
+}
+
+/// Whether the slot ran with all that it was asked.
+fn is_whole(answer: u64) -> bool {
+    number(answer) == 0 && dropped(answer) == [0, 0]
 }
 
 fn delivery(answer: u64) -> Option<(u16, u8)> {

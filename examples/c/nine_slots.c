@@ -15,6 +15,8 @@ int main(void) {
     for (size_t t = 0; t < sizeof calls / sizeof calls[0]; t++) {
         gel_answer a = gel_buffer_slot(&buffer, calls[t], store, sizeof store);
         if (a.number != 0) printf("slot %zu is refused with %d\n", t, a.number);
+        if (a.dropped & 1) printf("slot %zu drops its arrival, with 5\n", t);
+        if (a.dropped & 2) printf("slot %zu drops its request, with 7\n", t);
         if (a.delivers) printf("slot %zu delivers byte %d of queue %d\n", t, a.value, a.queue);
         if (a.writes) printf("slot %zu writes a block of queue %d\n", t, a.written);
         if (a.reads) printf("slot %zu reads a block of queue %d\n", t, a.read);

@@ -46,6 +46,10 @@ for t, word in enumerate(calls + 3 * [call()]):
     a = library.gel_slot(*arrays, word, store, c_size_t(len(store)))
     if a.number:
         print(f"slot {t} is refused with {a.number}")
+    if a.dropped & 1:
+        print(f"slot {t} drops its arrival, with 5")
+    if a.dropped & 2:
+        print(f"slot {t} drops its request, with 7")
     if a.delivers:
         print(f"slot {t} delivers byte {a.value} of queue {a.queue}")
     if a.writes:

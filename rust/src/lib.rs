@@ -9,7 +9,7 @@ pub mod script;
 pub mod sizes;
 
 /// The interface that the header describes; `version` tells the one that is linked.
-pub const VERSION: u32 = 3;
+pub const VERSION: u32 = 4;
 
 /// How long the arrays of a buffer are.
 pub const REGS: usize = 9;
@@ -59,6 +59,7 @@ pub struct Lent<'a> {
 #[derive(Clone, Copy, Debug, Default, PartialEq, Eq)]
 pub struct Answer {
     pub number: u8,
+    /// 1 where the arrival was dropped (5), 2 where the request was (7), 3 where both were; else 0.
     pub dropped: u8,
     pub delivers: u8,
     pub writes: u8,
@@ -85,6 +86,14 @@ impl Answer {
             | u64::from(self.dropped) << 54
             | u64::from(self.number) << 56
     }
+}
+
+/// What is judged of a slot: `number` and `dropped` as in its answer.
+#[repr(C)]
+#[derive(Clone, Copy, Debug, Default, PartialEq, Eq)]
+pub struct Judgement {
+    pub number: u8,
+    pub dropped: u8,
 }
 
 /// What a slot answers in which the round robin arbiter chooses: as any slot, and the queue that it asked.
@@ -169,9 +178,9 @@ pub fn idle(lent: Lent, slots: usize, store: &mut [u8]) -> Stretch {
     unsafe { raw::gel_idle(lent, slots, store.as_mut_ptr(), store.len()) }
 }
 
-/// The number that `slot` would answer with a store of so many bytes. Nothing changes.
+/// The number that `slot` would answer with a store of so many bytes, and what it would drop. Nothing changes.
 #[inline]
-pub fn judge(lent: &Lent, call: u64, store_bytes: usize) -> u8 {
+pub fn judge(lent: &Lent, call: u64, store_bytes: usize) -> Judgement {
     let Lent { regs, tail, head, cells, firsts, stored, .. } = lent;
     unsafe { raw::gel_judge(regs, tail, head, cells, firsts, stored, call, store_bytes) }
 }

@@ -2,7 +2,7 @@
 
 use crate::script::{Fault, Numbers, Reading, Writing};
 use crate::sizes::Memories;
-use crate::{Answer, ArbiterAnswer, Blocks, Cells, Counts, Head, Lent, Regs, Stretch, Tail};
+use crate::{Answer, ArbiterAnswer, Blocks, Cells, Counts, Head, Judgement, Lent, Regs, Stretch, Tail};
 
 extern "C" {
     pub fn gel_version() -> u32;
@@ -16,7 +16,7 @@ extern "C" {
         stored: &Blocks,
         call: u64,
         store_bytes: usize,
-    ) -> u8;
+    ) -> Judgement;
     pub fn gel_margin(regs: &Regs, head: &Head, cells: &Cells, queue: u16) -> i32;
 
     pub fn gel_memory_sizes(queues: usize, block: usize, depth: usize) -> Memories;

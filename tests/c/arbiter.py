@@ -15,21 +15,32 @@ class ArbiterAnswer(ctypes.Structure):
     _fields_ = [("slot", Answer), ("asks", c_uint8), ("asked", c_uint16)]
 
 
+def arrival(queue, letter):
+    return c_uint64(1 << 24 | queue << 8 | ord(letter))
+
+
 library = ctypes.CDLL(sys.argv[1])
 library.gel_open.restype = c_uint8
+library.gel_slot.restype = Answer
 library.gel_arbiter_slot.restype = ArbiterAnswer
 library.gel_arbiter_step.restype = ArbiterAnswer
 regs = (c_size_t * 9)()
 places = [c_uint16 * 2144, c_uint16 * 4034, c_uint32 * 2017, c_uint8 * 64, c_uint8 * 64] + 3 * [c_uint16 * 64]
 arrays = [regs] + [array() for array in places]
-store = (c_uint8 * (2 * 4 * 2))()
-if library.gel_open(c_size_t(2), c_size_t(2), c_size_t(4), *arrays) != 0:
+store = (c_uint8 * (2 * 1 * 2))()
+if library.gel_open(c_size_t(2), c_size_t(2), c_size_t(1), *arrays) != 0:
     sys.exit(1)
+# The caller fills queue 0, so that the arbiter's first slot drops what arrives there.
+for letter in "ab":
+    a = library.gel_slot(*arrays, arrival(0, letter), store, c_size_t(len(store)))
+    if a.number or a.dropped:
+        sys.exit(1)
 # Each slot by the other function; the fourth arrival is of a queue that there is not.
-for t, arrives in enumerate([(0, "a"), (1, "b"), None, (2, "x"), (1, "c")]):
-    word = 1 << 24 | arrives[0] << 8 | ord(arrives[1]) if arrives else 0
+for t, arrives in enumerate([(0, "c"), (1, "d"), None, (2, "x"), (0, "e"), None]):
+    word = arrival(*arrives) if arrives else c_uint64(0)
     slot = library.gel_arbiter_step if t % 2 else library.gel_arbiter_slot
-    a = slot(*arrays, c_uint64(word), store, c_size_t(len(store)))
+    a = slot(*arrays, word, store, c_size_t(len(store)))
     asked = f"asks queue {a.asked}" if a.asks else "asks none"
     leaves = f", delivers byte {a.slot.value} of queue {a.slot.queue}" if a.slot.delivers else ""
-    print(f"slot {t} answers {a.slot.number}, {asked}, the last one asked is {regs[8]}{leaves}")
+    numbers = f"answers {a.slot.number}, drops {a.slot.dropped}"
+    print(f"slot {t} {numbers}, {asked}, the last one asked is {regs[8]}{leaves}")

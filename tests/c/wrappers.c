@@ -41,7 +41,19 @@ static int same(gel_answer a, gel_answer b) {
            a.read == b.read && a.slots_left == b.slots_left;
 }
 
-/* An answer that is a refusal and nothing else. */
+/* A slot is judged so: its number, and what it would drop. */
+static int judges(const gel_buffer *g, uint64_t call, size_t bytes, uint8_t number, uint8_t dropped) {
+    gel_judgement j = gel_buffer_judge(g, call, bytes);
+    return j.number == number && j.dropped == dropped;
+}
+
+/* The same answer with these halves dropped: 1 is the arrival, 2 the request, 3 both. */
+static gel_answer with_dropped(gel_answer a, uint8_t dropped) {
+    a.dropped = dropped;
+    return a;
+}
+
+/* An answer that is what stops the slot and nothing else. */
 static int refused(gel_answer a, uint8_t number) {
     gel_answer b = nothing;
     b.number = number;
@@ -84,7 +96,7 @@ static void nine_slots(void) {
     CHECK(gel_buffer_open(&by_run, 2, 2, 4) == 0);
     CHECK(gel_buffer_run(&by_run, calls, words, SLOTS, run_store, STORE) == 0);
     for (int t = 0; t < SLOTS; t++) {
-        CHECK(gel_buffer_judge(&by_slot, calls[t], STORE) == 0);
+        CHECK(judges(&by_slot, calls[t], STORE, 0, 0));
         CHECK(same(gel_buffer_slot(&by_slot, calls[t], slot_store, STORE), table[t]));
         CHECK(same(gel_buffer_step(&by_step, calls[t], step_store, STORE), table[t]));
         CHECK(same(gel_answer_of(words[t]), table[t]));
@@ -132,13 +144,13 @@ static void sizes_refused(void) {
     CHECK(gel_buffer_open(&other, 1, 1, 1) == 0 && other.regs[GEL_LAST_ASKED] == 0);
 }
 
-/* A slot of `other` with this call is refused so, by judging too, and all is as it came. */
+/* A slot of `other` with this call is stopped so, by judging too, and all is as it came. */
 static int refuses(uint64_t call, uint8_t number) {
     static gel_buffer before;
     uint8_t store[STORE];
     before = other;
     memcpy(store, other_store, STORE);
-    return gel_buffer_judge(&other, call, STORE) == number &&
+    return judges(&other, call, STORE, number, 0) &&
            refused(gel_buffer_slot(&other, call, other_store, STORE), number) && same_buffer(&other, &before) &&
            memcmp(store, other_store, STORE) == 0;
 }
@@ -149,17 +161,12 @@ static void slots_refused(void) {
     CHECK(refuses(gel_arrive(256, 'z'), 4) && refuses(gel_ask(256), 6));
     CHECK(refuses(gel_arrive(65535, 'z'), 4) && refuses(gel_ask(65535), 6));
     CHECK(refuses(gel_both(256, 'z', 256), 4) && refuses(gel_both(0, 'z', 256), 6));
-    CHECK(refuses(gel_ask(1), 7) && refuses(gel_both(0, 'z', 1), 7));
     CHECK(refused(gel_buffer_step(&other, gel_arrive(256, 'z'), other_store, STORE), 4));
     CHECK(refused(gel_buffer_step(&other, gel_ask(256), other_store, STORE), 6));
     /* A store that is too short, and none at all. */
     CHECK(refused(gel_buffer_slot(&other, gel_arrive(0, 'z'), other_store, STORE - 1), 2));
     CHECK(refused(gel_buffer_slot(&other, gel_arrive(256, 'z'), NULL, 0), 2));
-    CHECK(gel_buffer_judge(&other, gel_nothing(), STORE - 1) == 2 && gel_buffer_judge(&other, gel_nothing(), 0) == 2);
-    /* A full queue: one block of one byte. */
-    CHECK(gel_buffer_open(&other, 1, 1, 1) == 0);
-    CHECK(gel_buffer_slot(&other, gel_arrive(0, 'z'), other_store, 1).writes == 1 && other_store[0] == 'z');
-    CHECK(refused(gel_buffer_slot(&other, gel_arrive(0, 'z'), other_store, 1), 5));
+    CHECK(judges(&other, gel_nothing(), STORE - 1, 2, 0) && judges(&other, gel_nothing(), 0, 2, 0));
     /* A state that breaks a rule. */
     CHECK(gel_buffer_open(&other, 2, 2, 4) == 0);
     other.regs[GEL_LAST_ASKED] = 2;
@@ -176,21 +183,77 @@ static void slots_refused(void) {
     CHECK(refused(gel_buffer_idle(&other, 5, other_store, STORE).last, 3));
 }
 
-/* A full queue that is read and refilled in one slot: 5 where its bytes are a block in store, and not where they are in
- * the tail, which takes an idle slot before them. */
+/* A slot of `other` with this call runs as one with what is left of it, and tells what was dropped: as a slot, as a
+ * step and in a run, whose word is in words[0]; and nothing stops it, by judging too. */
+static int runs_without(uint64_t call, uint64_t left, uint8_t dropped) {
+    gel_answer wanted;
+    int judged = judges(&other, call, STORE, 0, dropped);
+    by_slot = by_step = by_run = other;
+    memcpy(slot_store, other_store, STORE);
+    memcpy(step_store, other_store, STORE);
+    memcpy(run_store, other_store, STORE);
+    wanted = gel_buffer_slot(&other, left, other_store, STORE);
+    return judged && wanted.number == 0 && wanted.dropped == 0 &&
+           same(gel_buffer_slot(&by_slot, call, slot_store, STORE), with_dropped(wanted, dropped)) &&
+           same(gel_buffer_step(&by_step, call, step_store, STORE), with_dropped(wanted, dropped)) &&
+           gel_buffer_run(&by_run, &call, words, 1, run_store, STORE) == 0 &&
+           same(gel_answer_of(words[0]), with_dropped(wanted, dropped)) && alike(&other, &by_slot) &&
+           alike(&other, &by_step) && alike(&other, &by_run) && memcmp(other_store, slot_store, STORE) == 0 &&
+           memcmp(other_store, step_store, STORE) == 0 && memcmp(other_store, run_store, STORE) == 0;
+}
+
+/* 5 drops the arrival, 7 the request, and the slot runs without. */
+static void halves_dropped(void) {
+    const gel_answer delivers_and_reads = {0, 0, 1, 0, 1, 'c', 1, 0, 0, 0};
+    /* A fresh buffer has no byte to ask for. The phase passes, and what arrives beside is taken. */
+    CHECK(gel_buffer_open(&other, 2, 2, 4) == 0);
+    CHECK(runs_without(gel_ask(1), gel_nothing(), 2) && other.regs[GEL_PHASE] == 1);
+    CHECK(runs_without(gel_both(0, 'a', 1), gel_arrive(0, 'a'), 2) && other.regs[GEL_PHASE] == 0);
+    CHECK(other.regs[GEL_TAIL_FILL] == 1 && other.regs[GEL_TAIL_MARK] == 1);
+    /* A full queue: one block of one byte. */
+    CHECK(gel_buffer_open(&other, 1, 1, 1) == 0);
+    CHECK(gel_buffer_slot(&other, gel_arrive(0, 'z'), other_store, 1).writes == 1 && other_store[0] == 'z');
+    CHECK(same(gel_buffer_slot(&other, gel_arrive(0, 'y'), other_store, 1), with_dropped(nothing, 1)));
+    CHECK(other_store[0] == 'z' && other.regs[GEL_TAIL_FILL] == 0 && other.stored[0] == 1);
+    /* A full queue whose block is in store; what stops a slot is its only answer. */
+    CHECK(gel_buffer_open(&other, 2, 2, 1) == 0);
+    CHECK(same(gel_buffer_slot(&other, gel_arrive(0, 'a'), other_store, STORE), nothing));
+    CHECK(gel_buffer_slot(&other, gel_arrive(0, 'b'), other_store, STORE).writes == 1);
+    CHECK(refuses(gel_both(0, 'z', 2), 6) && refuses(gel_both(2, 'z', 1), 4));
+    CHECK(runs_without(gel_arrive(0, 'z'), gel_nothing(), 1) && other.regs[GEL_TAIL_MARK] == 2);
+    CHECK(runs_without(gel_both(0, 'z', 1), gel_nothing(), 3));
+    CHECK(runs_without(gel_both(0, 'z', 0), gel_ask(0), 1) && other.owing[0] == 1);
+    /* Its bytes are all in store and owed: the request is for the arriving one, which is dropped, and then it is too.
+     * The slot delivers what was asked for before, and reads. */
+    CHECK(gel_buffer_open(&other, 2, 2, 1) == 0);
+    for (uint8_t t = 0; t < 4; t++) {
+        CHECK(gel_buffer_slot(&other, gel_arrive(t / 2, (uint8_t)('a' + t)), other_store, STORE).writes == t % 2);
+    }
+    CHECK(same(gel_buffer_slot(&other, gel_ask(1), other_store, STORE), nothing));
+    CHECK(gel_buffer_slot(&other, gel_ask(0), other_store, STORE).reads == 1);
+    CHECK(same(gel_buffer_slot(&other, gel_ask(0), other_store, STORE), nothing) && other.owing[0] == 2);
+    CHECK(runs_without(gel_both(0, 'z', 0), gel_nothing(), 3));
+    CHECK(same(gel_answer_of(words[0]), with_dropped(delivers_and_reads, 3)));
+}
+
+/* A full queue that is read and refilled in one slot: the arrival is dropped where its bytes are a block in store, and
+ * taken where they are in the tail, which takes an idle slot before them. */
 static void full_queue_refilled(void) {
+    static gel_buffer kept;
     const gel_answer writes = {0, 0, 0, 1, 0, 0, 0, 0, 0, 0};
     const gel_answer delivers = {0, 0, 1, 0, 0, 'a', 0, 0, 0, 0};
     CHECK(gel_buffer_open(&other, 1, 2, 1) == 0);
     CHECK(same(gel_buffer_slot(&other, gel_arrive(0, 'a'), other_store, 2), nothing));
     CHECK(same(gel_buffer_slot(&other, gel_arrive(0, 'b'), other_store, 2), writes));
-    CHECK(refuses(gel_both(0, 'c', 0), 5));
+    CHECK(runs_without(gel_both(0, 'c', 0), gel_ask(0), 1));
     CHECK(gel_buffer_open(&other, 1, 2, 1) == 0);
     CHECK(same(gel_buffer_slot(&other, gel_nothing(), other_store, 2), nothing));
     CHECK(same(gel_buffer_slot(&other, gel_arrive(0, 'a'), other_store, 2), nothing));
     CHECK(same(gel_buffer_slot(&other, gel_arrive(0, 'b'), other_store, 2), nothing));
-    CHECK(refuses(gel_arrive(0, 'c'), 5));
-    CHECK(gel_buffer_judge(&other, gel_both(0, 'c', 0), 2) == 0);
+    kept = other;
+    CHECK(runs_without(gel_arrive(0, 'c'), gel_nothing(), 1));
+    other = kept;
+    CHECK(judges(&other, gel_both(0, 'c', 0), 2, 0, 0));
     CHECK(same(gel_buffer_slot(&other, gel_both(0, 'c', 0), other_store, 2), writes));
     CHECK(other_store[0] == 'b' && other_store[1] == 'c' && other.regs[GEL_TAIL_MARK] == 2);
     CHECK(same(gel_buffer_step(&other, gel_nothing(), other_store, 2), nothing));
@@ -278,7 +341,8 @@ static void arbiter_chooses(void) {
     CHECK(asks(gel_arrive(0, 'a'), 0));
     CHECK(same(gel_buffer_slot(&other, gel_both(1, 'b', 1), other_store, STORE), nothing));
     CHECK(same(gel_buffer_step(&other, gel_arrive(0, 'c'), other_store, STORE), nothing));
-    CHECK(other.regs[GEL_LAST_ASKED] == 0 && gel_buffer_judge(&other, gel_ask(1), STORE) == 7);
+    by_step = other;
+    CHECK(other.regs[GEL_LAST_ASKED] == 0 && gel_buffer_step(&by_step, gel_ask(1), step_store, STORE).dropped == 2);
     /* In an arbiter's slot it is not looked at, nor are the other bits: 1 has no byte, and 65,535 is no queue. */
     a = arbitrate(gel_ask(1) | (uint64_t)0x3fffff << 42);
     CHECK(same(a.slot, delivers_a) && a.asks == 1 && a.asked == 0);
@@ -299,7 +363,6 @@ static void greatest_wait(void) {
 }
 
 static void arbiter_is_refused(void) {
-    gel_arbiter_answer a;
     CHECK(gel_buffer_open(&other, 2, 2, 4) == 0);
     CHECK(arbiter_refuses(gel_arrive(2, 'z'), 4) && arbiter_refuses(gel_arrive(256, 'z'), 4));
     CHECK(arbiter_refuses(gel_both(65535, 'z', 65535), 4));
@@ -312,14 +375,32 @@ static void arbiter_is_refused(void) {
     other.regs[GEL_LAST_ASKED] = (size_t)1 << 32;
     CHECK(arbiter_refused(gel_buffer_arbiter_slot(&other, gel_nothing(), other_store, STORE), 3));
     CHECK(other.regs[GEL_LAST_ASKED] == (size_t)1 << 32 && other.regs[GEL_PHASE] == 0);
-    /* Queue 0 is full, with both its bytes in store and owed, and no other has a byte: its arrival does not count, and
-     * there is no request. From a fresh buffer that does not come. The counts are right then, and a step may follow. */
-    CHECK(gel_buffer_open(&other, 2, 2, 1) == 0);
+}
+
+static void arbiter_meets_a_full_queue(void) {
+    const gel_answer reads = {0, 1, 0, 0, 1, 0, 0, 0, 0, 0};
+    const gel_answer delivers = {0, 0, 1, 0, 0, 's', 0, 0, 0, 0};
+    gel_arbiter_answer a;
+    /* Queue 0 is full, with both its bytes in store and owed, and no other has a byte: its arrival is dropped and does
+     * not count, and there is no request. From a fresh buffer that does not come. The counts are right then, and a step
+     * may follow, which reads the block. */
+    CHECK(gel_buffer_open(&other, 3, 2, 1) == 0);
     other.stored[0] = 1;
-    other.cells[1] = other.cells[2] = 2 * 65536;
-    CHECK(arbiter_refused(gel_buffer_arbiter_slot(&other, gel_arrive(0, 'z'), other_store, STORE), 5));
-    CHECK(other.owing[0] == 2 && other.regs[GEL_LAST_ASKED] == 1 && other.regs[GEL_PHASE] == 0);
-    CHECK(arbiter_refuses(gel_arrive(0, 'z'), 5) && asks(gel_arrive(1, 'z'), 1));
+    other.cells[2] = other.cells[3] = 2 * 65536;
+    other_store[0] = 's';
+    other_store[1] = 't';
+    a = gel_buffer_arbiter_slot(&other, gel_arrive(0, 'z'), other_store, STORE);
+    CHECK(same(a.slot, with_dropped(nothing, 1)) && a.asks == 0 && a.asked == 0);
+    CHECK(other.owing[0] == 2 && other.regs[GEL_LAST_ASKED] == 2 && other.regs[GEL_PHASE] == 1);
+    CHECK(asks_none(gel_arrive(0, 'z'), reads) && other.regs[GEL_TAIL_MARK] == 0);
+    a = arbitrate(gel_arrive(1, 'z'));
+    CHECK(same(a.slot, delivers) && a.asks == 1 && a.asked == 1 && other.regs[GEL_LAST_ASKED] == 1);
+    /* It is asked for a byte in store: its arrival is dropped, and the queue asked is noted. */
+    CHECK(gel_buffer_open(&other, 2, 2, 1) == 0);
+    CHECK(same(gel_buffer_slot(&other, gel_arrive(0, 'a'), other_store, STORE), nothing));
+    CHECK(gel_buffer_slot(&other, gel_arrive(0, 'b'), other_store, STORE).writes == 1);
+    a = arbitrate(gel_arrive(0, 'c'));
+    CHECK(same(a.slot, with_dropped(nothing, 1)) && a.asks == 1 && a.asked == 0 && other.regs[GEL_LAST_ASKED] == 0);
     /* A full queue that is asked for an older byte takes the arriving one. */
     CHECK(gel_buffer_open(&other, 1, 2, 1) == 0);
     CHECK(asks_none(gel_nothing(), nothing));
@@ -385,6 +466,8 @@ static void call_and_answer_words(void) {
                                  (uint64_t)1 << 29 | (uint64_t)7 << 30 | (uint64_t)1 << 40 | (uint64_t)8190 << 41 |
                                  (uint64_t)2 << 54 | (uint64_t)200 << 56);
     CHECK(a.number == 200 && a.dropped == 2 && a.delivers == 1 && a.writes == 1 && a.reads == 1);
+    CHECK(same(gel_answer_of((uint64_t)1 << 54), with_dropped(nothing, 1)));
+    CHECK(same(gel_answer_of((uint64_t)3 << 54), with_dropped(nothing, 3)));
     CHECK(a.value == 0xab && a.queue == 1022 && a.written == 513 && a.read == 7 && a.slots_left == 8190);
     CHECK(same(gel_answer_of(0), nothing));
     CHECK(gel_nothing() == 0);
@@ -418,6 +501,11 @@ static void sizes(void) {
 static const gel_command commands[] = {{16, 2, 2, 4},   {1, 0, 'a', 0}, {1, 0, 'b', 0}, {3, 1, 'x', 0}, {3, 1, 'y', 1},
                                        {2, 0, 0, 0},    {2, 1, 0, 0},   {4, 2, 0, 0},   {0, 0, 0, 0},   {5, 0, 0, 0}};
 static const char lines[] = "D 5 0 97\nD 6 1 120\nD 7 0 98\nD 8 1 121\nE 9\n";
+
+/* In slot 7 a byte leaves, and both halves are dropped. */
+static const uint8_t dropping_script[] = {16, 2, 2, 1, 1, 0, 'a', 1, 0, 'b', 1, 1, 'c', 1, 1, 'd', 2, 1,
+                                          2,  0, 2, 0, 3, 0, 'z', 0, 4, 2,   0, 5};
+static const char dropping_lines[] = "D 7 1 99\nR 7 5\nR 7 7\nD 8 0 97\nD 9 0 98\nE 10\n";
 
 static gel_command command(uint16_t code, uint16_t one, uint16_t two, uint16_t three) {
     gel_command c;
@@ -495,6 +583,8 @@ static void whole_scripts(void) {
     printed = gel_script_run(script, bytes, store, STORE, output, gel_script_output(bytes));
     CHECK(printed == strlen(lines) && memcmp(output, lines, printed) == 0 && output[printed] == '?');
     CHECK(store[0] == 'a' && store[1] == 'b');
+    printed = gel_script_run(dropping_script, sizeof dropping_script, store, STORE, output, sizeof output);
+    CHECK(printed == strlen(dropping_lines) && memcmp(output, dropping_lines, printed) == 0);
     printed = gel_script_run(script, bytes, NULL, 0, output, sizeof output);
     CHECK(printed == 10 && memcmp(output, "R 0 2\nE 0\n", printed) == 0);
     printed = gel_script_run(NULL, 0, NULL, 0, output, 11);
@@ -521,8 +611,8 @@ static const uint8_t capture_script[] = {
     1, 0, 'x', 1, 0, 'y',
     5};
 
-/* Queue 5 takes K x b = 8 bytes, and the 8 after them are refused. */
-static const char capture_lines[] = "R 8 5\nR 8 5\nR 8 5\nR 8 5\nR 8 5\nR 8 5\nR 8 5\nR 8 5\nE 10\n";
+/* Queue 5 takes K x b = 8 bytes, and the 8 after them are dropped. */
+static const char capture_lines[] = "R 8 5\nR 9 5\nR 10 5\nR 11 5\nR 12 5\nR 13 5\nR 14 5\nR 15 5\nE 18\n";
 
 enum { CAPTURE = sizeof capture, CAPTURE_SCRIPT = sizeof capture_script, CAPTURE_STORE = 8 * 4 * 2 };
 
@@ -601,11 +691,13 @@ int main(void) {
     nine_slots();
     sizes_refused();
     slots_refused();
+    halves_dropped();
     full_queue_refilled();
     counts_mended();
     arbiter_chooses();
     greatest_wait();
     arbiter_is_refused();
+    arbiter_meets_a_full_queue();
     runs();
     idle_slots();
     call_and_answer_words();

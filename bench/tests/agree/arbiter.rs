@@ -4,7 +4,7 @@ use bench::library::request_in;
 use bench::model::Model;
 use bench::rough::rough_with_arbiter;
 use bench::traffic::{ArbiterTraffic, Traffic};
-use bench::words::{arbiters_call, halves, is_arbiters, Request};
+use bench::words::{arbiters_call, halves, is_arbiters, taken, Request};
 use bench::{careful, natural, TABLE_SIZES};
 use gelwynnar::ArbiterAnswer;
 
@@ -94,7 +94,7 @@ fn agree_as_lists(ways: &[(&str, Run)], sizes: Sizes, calls: &[u64], store: &[u8
 }
 
 /// What the list itself tells of the arbiter: the bytes of each queue that nobody has asked for and the last one asked,
-/// by the slots that were taken.
+/// by the halves that were taken.
 struct History {
     unasked: Vec<usize>,
     last: usize,
@@ -109,10 +109,11 @@ impl History {
     fn pass(&mut self, call: u64, said: &Said) {
         let queues = self.unasked.len();
         if number(said.answer) != 0 {
-            assert_eq!((said.asked, said.last_asked), (None, self.last), "a refused slot");
+            assert_eq!((said.asked, said.last_asked), (None, self.last), "a stopped slot");
             return;
         }
-        let (arrival, mut request) = halves(call);
+        let (arrival, request) = halves(call);
+        let (arrival, mut request) = taken(said.answer, arrival, request);
         if let Some((queue, _)) = arrival {
             self.unasked[queue as usize] += 1;
         }
@@ -120,6 +121,7 @@ impl History {
             let mut round = (self.last + 1..=self.last + queues).map(|queue| queue % queues);
             let next = round.find(|&queue| self.unasked[queue] > 0);
             assert_eq!(said.asked.map(usize::from), next, "after {}", self.last);
+            assert_eq!(dropped(said.answer)[1], 0, "what the arbiter asks for is there");
             self.last = next.unwrap_or(self.last);
             request = said.asked;
         } else {
@@ -146,23 +148,31 @@ fn long_enough(sizes: Sizes) -> usize {
 
 #[test]
 fn at_many_sizes() {
-    let mut answers = [0; 11];
+    let mut stops = [0; 11];
     let (mut asked, mut unasked, mut swaps) = (0, 0, 0);
+    // Slots with a dropped arrival in which a queue is asked, and in which none is.
+    let (mut dropped_and_asked, mut dropped_alone) = (0, 0);
     for (seed, sizes) in many_sizes() {
         let calls = rough_with_arbiter(sizes, long_enough(sizes), seed);
         let all_said = agree_by_turns(sizes, &calls);
         check_choices(sizes, &calls, &all_said);
         for (said, _) in all_said.iter().zip(&calls).filter(|(_, &call)| is_arbiters(call)) {
-            answers[number(said.answer) as usize] += 1;
+            stops[number(said.answer) as usize] += 1;
             asked += usize::from(said.asked.is_some());
             unasked += usize::from(number(said.answer) == 0 && said.asked.is_none());
+            let of_arrival = dropped(said.answer)[0] == 5;
+            dropped_and_asked += usize::from(of_arrival && said.asked.is_some());
+            dropped_alone += usize::from(of_arrival && said.asked.is_none());
         }
         swaps += swaps_of_arbiter(sizes, &calls);
     }
     // The comparison would say little of lists in which nothing happens.
-    assert!([0, 4, 5].into_iter().all(|number| answers[number] > 500), "{answers:?}");
-    assert_eq!(answers.iter().sum::<usize>(), answers[0] + answers[4] + answers[5], "{answers:?}");
+    assert!([0, 4].into_iter().all(|number| stops[number] > 500), "{stops:?}");
+    assert_eq!(stops.iter().sum::<usize>(), stops[0] + stops[4], "{stops:?}");
     assert!(asked > 10_000 && unasked > 1000 && swaps > 100, "{asked} asked, {unasked} not, {swaps} swaps");
+    assert!(dropped_and_asked > 500, "{dropped_and_asked} slots ask and drop the arrival");
+    // From a fresh state a full queue always has a byte to ask for, or another one has.
+    assert_eq!(dropped_alone, 0, "slots that drop the arrival and ask for none");
 }
 
 /// How many slots of the arbiter's read and refill a full queue.
@@ -179,7 +189,7 @@ fn swaps_of_arbiter(sizes: Sizes, calls: &[u64]) -> usize {
     taken
 }
 
-/// None is refused, and all that can be asked for is: the byte that arrives, or the whole backlog.
+/// All slots run whole, and all that can be asked for is: the byte that arrives, or the whole backlog.
 #[test]
 fn the_traffic_of_the_table_by_turns() {
     for sizes in TABLE_SIZES {
@@ -187,7 +197,7 @@ fn the_traffic_of_the_table_by_turns() {
             let calls = traffic.calls(sizes, 10_000, 1);
             let all_said = agree_by_turns(sizes, &calls);
             check_choices(sizes, &calls, &all_said);
-            assert!(all_said.iter().all(|said| number(said.answer) == 0), "{sizes:?}, {}", traffic.name());
+            assert!(all_said.iter().all(|said| is_whole(said.answer)), "{sizes:?}, {}", traffic.name());
             let backlog = matches!(traffic, ArbiterTraffic::Backlog);
             for (said, &call) in all_said.iter().zip(&calls).filter(|(_, &call)| is_arbiters(call)) {
                 assert_eq!(said.asked.is_some(), backlog || halves(call).0.is_some());
@@ -212,7 +222,7 @@ fn the_arbiter_goes_round() {
 fn a_list_by_hand() {
     let arbiters = |queue| arbiters_call(Some((queue, 7)));
     let nothing = arbiters_call(None);
-    // Each call, the queue that the arbiter asks, and the last one asked. Fresh it is 2.
+    // Each call, the queue that the arbiter asks, and the last one asked. Fresh it is 2. Slot 8 is stopped.
     let list = [
         (nothing, None, 2),
         (arbiters(1), Some(1), 1),

@@ -1,5 +1,7 @@
 //! Lists of many slots.
 
+use std::collections::BTreeMap;
+
 use bench::model::Model;
 use bench::natural;
 use bench::rough::rough;
@@ -78,7 +80,8 @@ fn in_round_robin() {
 /// The comparison would say little of lists in which nothing happens.
 #[test]
 fn much_happens_in_the_lists() {
-    let mut refusals = [0; 11];
+    let mut stops = [0; 11];
+    let mut drops = BTreeMap::new();
     let mut swaps = 0;
     for (_, sizes) in many_sizes() {
         swaps += swaps_of(sizes, &random_calls(sizes, 0));
@@ -86,27 +89,30 @@ fn much_happens_in_the_lists() {
         let answers = |seed| outcome(PLAIN.run, sizes, &random_calls(sizes, seed), &store).answers;
         let answers = [answers(0), answers(1)].concat();
         for &answer in &answers {
-            refusals[number(answer) as usize] += 1;
+            stops[number(answer) as usize] += 1;
+            *drops.entry(dropped(answer)).or_default() += 1;
         }
         assert!(answers.iter().any(|&answer| delivery(answer).is_some()), "{sizes:?}: no delivery");
         assert!(answers.iter().any(|&answer| written(answer).is_some()), "{sizes:?}: no write");
         assert!(answers.iter().any(|&answer| read(answer).is_some()), "{sizes:?}: no read");
     }
-    assert!([4, 5, 6, 7].into_iter().all(|number| refusals[number] > 100), "{refusals:?}");
+    assert!([4, 6].into_iter().all(|number| stops[number] > 100), "{stops:?}");
+    assert!([1, 2, 3, 5, 7, 8, 9, 10].into_iter().all(|number| stops[number] == 0), "{stops:?}");
+    assert!([[5, 0], [0, 7], [5, 7]].iter().all(|halves| drops.get(halves) > Some(&100)), "{drops:?}");
     assert!(swaps > 500, "{swaps} swaps");
-    assert!([1, 2, 3, 8, 9, 10].into_iter().all(|number| refusals[number] == 0), "{refusals:?}");
 }
 
-/// Full traffic and round robin are never refused, and random traffic is where a queue is full or empty.
+/// No slot is stopped. Full traffic and round robin have no half dropped, and random traffic has where a queue is full
+/// or empty.
 #[test]
 fn the_traffic_of_the_table() {
     for sizes in TABLE_SIZES {
         for traffic in Traffic::ALL {
             let answers = agree(sizes, &traffic.calls(sizes, 10_000, 1), &random_store(sizes.store()));
-            let refused = |sought| answers.iter().any(|&answer| number(answer) == sought);
+            let any_dropped = |half: usize| answers.iter().any(|&answer| dropped(answer)[half] != 0);
             let random = matches!(traffic, Traffic::Random);
-            assert_eq!([5, 7].map(refused), [random, random], "{sizes:?}, {}", traffic.name());
-            assert!(answers.iter().all(|&answer| [0, 5, 7].contains(&number(answer))));
+            assert_eq!([0, 1].map(any_dropped), [random, random], "{sizes:?}, {}", traffic.name());
+            assert!(answers.iter().all(|&answer| number(answer) == 0), "{sizes:?}, {}", traffic.name());
         }
     }
 }

@@ -1,4 +1,4 @@
-//! What is refused, and changes nothing.
+//! What is refused whole, and changes nothing.
 
 use bench::rough::rough;
 

@@ -12,7 +12,7 @@ use Rattle.model.specs.State.{Byte, empty, State, tailBytes, blocks}
 use Rattle.model.specs.Slot.{Call, Answer, oldestCell, delivery, afterDelivery, afterArrival, isOwed, afterRequest}
 use Rattle.model.specs.Slot.{tailLeft, earlyArrival, lateArrival, queueToWrite, afterWrite, storeWritten, queueToRead}
 use Rattle.model.specs.Slot.{afterRead, afterPhase, joined, asked}
-use Rattle.model.specs.Slot.{wrote, wroteStore, refilled, refusal, accept, answer, slot}
+use Rattle.model.specs.Slot.{wrote, wroteStore, refilled, carriedOut}
 use Rattle.model.proofs.basics.Limits.{within-limits}
 use Rattle.model.proofs.basics.Rings.{fewer-blocks}
 use Rattle.model.proofs.one_slot.Rules.{Rules}
@@ -213,14 +213,14 @@ module _ (x : State) (store : List ℕ) (call : Call) (accepted : Accepted paper
                   can-turn =
                       subst (λ (y : State). y .phase < y .sizes .b) (sym state-5) (turn-can x store call accepted)
 
-                  pub all-in-turn : {x₆ : State} → x₆ ≡ afterPhase x₅ → {given : Option Byte} → given ≡ delivery x
-                      → refusal paper x store call ≡ 0
+                  pub all-in-turn : (i j : ℕ) {x₆ : State} → x₆ ≡ afterPhase x₅ → {given : Option Byte}
+                      → given ≡ delivery x
                       → _≡_ {A = Answer}
                       (record {
                         reply = record {
                           number = 0;
-                          arrivalNumber = 0;
-                          requestNumber = 0;
+                          arrivalNumber = i;
+                          requestNumber = j;
                           delivered = given;
                           written = written;
                           read = readQueue;
@@ -228,9 +228,8 @@ module _ (x : State) (store : List ℕ) (call : Call) (accepted : Accepted paper
                         state = x₆;
                         store = store₄;
                       })
-                      (slot paper x store call)
-                  all-in-turn turned gave none-refused =
-                      answer-is (accept x store call) _ (reply-is _ _ refl refl refl gave to-write to-read)
+                      (carriedOut i j x store call)
+                  all-in-turn i j turned gave =
+                      answer-is (carriedOut i j x store call) _ (reply-is _ _ refl refl refl gave to-write to-read)
                       (turned ∙ ap afterPhase state-5)
                       store-4
-                      ∙ ap (λ (n : ℕ). answer n x store call) (sym none-refused)

@@ -7,15 +7,17 @@ use lib.ListN.{length, getD}
 use Rattle.model.specs.Basics.{choose}
 use Rattle.model.specs.Sizes.{sizes, paperLimits, accepts, paper, storeBytes}
 use Rattle.model.specs.State.{State, empty, fresh, makingNumber, keeps}
-use Rattle.model.specs.Slot.{Call, Answer, slot}
+use Rattle.model.specs.Slot.{Call, halvesTaken, Answer, slot}
+use Rattle.model.specs.Calls.{idle}
 use Rattle.model.specs.Lists.{Promised}
 use Rattle.layout.specs.Lengths.{cellPlaces}
-use Rattle.layout.specs.Calls.{replyIn}
+use Rattle.layout.specs.Calls.{callIn, replyIn}
 use Rattle.layout.specs.Entries.{cellOf}
 use Rattle.layout.specs.Views.{Arrays, arrays, stateIn}
 use Rattle.layout.specs.Fresh.{freshRegs, freshArrays}
 use Rattle.buffer.specs.declared.State as code
 use Rattle.buffer.specs.declared.Made.{Made}
+use Rattle.buffer.specs.declared.Judged.{Judged}
 use Rattle.buffer.specs.declared.Slotted.{Slotted}
 
 -- The state of the paper that a record holds. "Places past a fill or past cell L are no part of the state."
@@ -45,11 +47,19 @@ pub record MakeSays (q b k : ℕ) (r : Made) : Type 0 where
   pub fresh-is : accepts paperLimits (sizes q b k) ≡ true → stateOf (r .state) ≡ fresh paper (sizes q b k)
   pub cells-empty : (i : ℕ) → i < cellPlaces → cellOf (getD (r .state .cells) i 0) ≡ empty
 
--- What judging a slot promises, of any state and any store of so many bytes: the very number that the slot answers.
--- `can-step`: where it is neither 3 nor 2, the state keeps the rules and the store is long enough.
-pub record JudgeSays (x : State) (bytes : ℕ) (call : Call) (r : ℕ) : Type 0 where
-  pub number-is : (store : List ℕ) → length store ≡ bytes → r ≡ slot paper x store call .reply .number
-  pub can-step : (r ≡ 3 → ⊥) → (r ≡ 2 → ⊥) → (keeps paper x ≡ true) × (storeBytes (x .sizes) ≤ bytes)
+-- What judging a slot promises, of any state and any store of so many bytes: the very number that the slot answers; of
+-- a slot that goes on those of its halves, and what is left of them. `can-step`: where it is neither 3 nor 2, the state
+-- keeps the rules and the store is long enough.
+pub record JudgeSays (x : State) (bytes : ℕ) (call : Call) (r : Judged) : Type 0 where
+  pub number-is : (store : List ℕ) → length store ≡ bytes → r .number ≡ slot paper x store call .reply .number
+  pub arrival-number-is : r .number ≡ 0 → (store : List ℕ) → length store ≡ bytes
+      → r .«arrival_number» ≡ slot paper x store call .reply .arrivalNumber
+  pub request-number-is : r .number ≡ 0 → (store : List ℕ) → length store ≡ bytes
+      → r .«request_number» ≡ slot paper x store call .reply .requestNumber
+  pub left-is : r .number ≡ 0 → callIn (r .arrival) (r .request) ≡ halvesTaken x call
+  pub stopped-is : (r .number ≡ 0 → ⊥)
+      → (r .«arrival_number» ≡ 0) × (r .«request_number» ≡ 0) × (callIn (r .arrival) (r .request) ≡ idle)
+  pub can-step : (r .number ≡ 3 → ⊥) → (r .number ≡ 2 → ⊥) → (keeps paper x ≡ true) × (storeBytes (x .sizes) ≤ bytes)
 
 -- A slot's answer in the model's terms.
 abbrev pub answerOf : Slotted → List ℕ → Answer

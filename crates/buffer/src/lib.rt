@@ -44,6 +44,16 @@ pub struct Made {
     pub number: u8,
 }
 
+// What is judged of a slot: the number that stops it or 0; of a slot that goes on the numbers of its halves, 5 or 0 and
+// 7 or 0, and what is left of them; of one that is stopped nothing.
+pub struct Judged {
+    pub number: u8,
+    pub arrival_number: u8,
+    pub request_number: u8,
+    pub arrival: Arrival,
+    pub request: Request,
+}
+
 // A slot's answer: the state, and what the slot tells.
 pub struct Slotted {
     pub state: State,
@@ -103,8 +113,9 @@ impl State {
         }
     }
 
-    // The number that a slot answers, of any state and with any store of so many bytes. Nothing changes.
-    pub fn judge(self, arrival: Arrival, request: Request, bytes: usize) -> u8
+    // The numbers that a slot answers and what it takes of its call, of any state and with any store of so many bytes.
+    // Nothing changes.
+    pub fn judge(self, arrival: Arrival, request: Request, bytes: usize) -> Judged
         ensures { λ r. ⌜ JudgeSays (stateOf self) bytes (callIn arrival request) r ⌝ }
     {
         let plan = slot_checked::plan(
@@ -118,12 +129,30 @@ impl State {
             request,
             bytes,
         );
-        plan.number
+        let number = plan.number;
+        if number != 0 {
+            return Judged {
+                number: number,
+                arrival_number: 0,
+                request_number: 0,
+                arrival: Arrival::NoArrival,
+                request: Request::NoRequest,
+            };
+        }
+        let comes = plan.arrival;
+        let asks = plan.request;
+        Judged {
+            number: 0,
+            arrival_number: plan.arrival_number,
+            request_number: plan.request_number,
+            arrival: comes,
+            request: asks,
+        }
     }
 
-    // One slot, of any state and any store: judged as a whole, and then the five steps, each on the one field that it
-    // changes. On a refusal the very record comes back. It is one method, since every call of a method with a state in
-    // it costs a copy of 20 KB.
+    // One slot, of any state and any store: judged as a whole, and then the five steps with what is left of its call,
+    // each on the one field that it changes. On a refusal the very record comes back. It is one method, since every
+    // call of a method with a state in it costs a copy of 20 KB.
     pub fn slot(mut self, arrival: Arrival, request: Request, store: &mut [u8]) -> Slotted
         ensures { λ r. ⌜ SlotSays self (now (store .entry)) (callIn arrival request) r (now (store .exit)) ⌝ }
     {
@@ -147,6 +176,8 @@ impl State {
                 reply: refused,
             };
         }
+        let comes = plan.arrival;
+        let asks = plan.request;
         let owes = plan.owes;
         let swaps = plan.swaps;
         let written = plan.written;
@@ -155,16 +186,16 @@ impl State {
         let cell = self.cells[0];
         let gave = slot_steps::deliver(&mut self.head, regs.head_fill, cell);
         // 2. The arriving byte joins the tail, or waits for the request to make room.
-        let early = slot_plan::early_arrival(swaps, arrival);
+        let early = slot_plan::early_arrival(swaps, comes);
         let joined = slot_steps::arrive(&mut self.tail, regs.tail_fill, early);
         // 3. The request takes the youngest cell.
-        let asked = slot_steps::ask(&mut self.tail, joined, owes, request);
+        let asked = slot_steps::ask(&mut self.tail, joined, owes, asks);
         shift_cells(
             &mut self.cells,
             regs.queues * (regs.block - 1) + 1,
             asked.cell,
         );
-        let late = slot_plan::late_arrival(swaps, arrival);
+        let late = slot_plan::late_arrival(swaps, comes);
         let filled = slot_steps::arrive(&mut self.tail, asked.fill, late);
         // 4. The two moves, where a queue is chosen.
         let mut firsts = self.firsts;
@@ -200,8 +231,8 @@ impl State {
             state: self,
             reply: Reply {
                 number: 0,
-                arrival_number: 0,
-                request_number: 0,
+                arrival_number: plan.arrival_number,
+                request_number: plan.request_number,
                 delivery: delivery,
                 written: written,
                 read: fetched,

@@ -1,8 +1,8 @@
 // "The state goes into a slot and is handed back by it": the steps of a slot as methods on the state, each by value and
-// each of the whole state. A step asks only what its own move needs, and lets pass what the slot refuses with 4, 5, 6 and
-// 9: an arrival of queue 200 joins the tail of a state that has one queue. So whoever calls them has `State::judge`
-// answer first. After an answer of 0 the steps in turn, told by the choices of crates/buffer_choices, find what they ask,
-// and are the slot: `buffer_choices::steps_in_turn`.
+// each of the whole state. A step asks only what its own move needs, and lets pass what the slot stops with 4, 6 and 9
+// or drops with 5: an arrival of queue 200 joins the tail of a state that has one queue. So whoever calls them has
+// `State::judge` answer first. After a number of 0 the steps in turn, with the arrival and the request that it left and
+// told by the choices of crates/buffer_choices, find what they ask, and are the slot: `buffer_choices::steps_in_turn`.
 ghost use mathlib.Core.Path.{_≡_};
 ghost use Prim.Native.Nat.{_<_};
 ghost use Rattle.model.specs.Slot.{delivery, afterArrival, afterRequest, afterWrite, storeWritten, afterRead};
@@ -58,7 +58,7 @@ impl State {
     }
 
     // 3. "The request takes the youngest cell": Owed where `owes` says so, as `buffer_choices::owes_request` tells, else
-    // Held. 6 is for `judge`, which rules out 7.
+    // Held. 6 is for `judge`, and so is 7: it leaves no request without a byte.
     pub fn ask(mut self, owes: bool, request: Request) -> State
         requires { ⌜ AskAsks (stateOf self) owes (requestIn request) ⌝ }
         ensures { λ r. ⌜ stateOf r ≡ afterRequest (requestIn request) (closed (stateOf self)) ⌝ }

@@ -2,7 +2,7 @@
 -- choices tell what the model's slot would, and the steps one after the other are the accepted slot. The arrival joins
 -- early or late as the model's does: `early-told`, `late-told`. Step 3 is told of the state with its youngest cell,
 -- which is still empty and so owes nothing.
-use mathlib.Core.Path.{_≡_, refl, ap, sym, _∙_}
+use mathlib.Core.Path.{_≡_, refl, ap, sym, _∙_, subst}
 use mathlib.Core.Bool.{Bool}
 use mathlib.Core.List.{List, [], _∷_, _++_}
 use mathlib.Core.Option.{Option, some, none}
@@ -14,19 +14,20 @@ use Rattle.model.specs.Basics.{choose}
 use Rattle.model.specs.Sizes.{paper}
 use Rattle.model.specs.State.{Byte, Cell, empty, State, owedOf, headBytes, blocks}
 use Rattle.model.specs.Slot.{Call, afterArrival, isOwed, swaps, earlyArrival, lateArrival, afterRequest}
-use Rattle.model.specs.Slot.{queueToWrite, afterWrite, storeWritten, queueToRead, joined, asked, wrote, refusal}
+use Rattle.model.specs.Slot.{queueToWrite, afterWrite, storeWritten, queueToRead, joined, asked, wrote}
 use Rattle.model.proofs.basics.Cells.{owed-append}
 use Rattle.model.proofs.one_slot.Accepted.{Accepted, accepted-facts}
 use Rattle.layout.specs.Calls.{chosenIn, arrivalIn, requestIn, callIn}
 use Rattle.layout.specs.declared.Arrival.{Arrival}
 use Rattle.layout.specs.declared.Request.{Request}
 use Rattle.buffer.specs.declared.State as code
-use Rattle.buffer.specs.Says.{stateOf}
+use Rattle.buffer.specs.declared.Judged.{Judged}
+use Rattle.buffer.specs.Says.{stateOf, JudgeSays}
 use Rattle.buffer.specs.OneStep.{opened, closed, CachesFit, AskAsks, WriteAsks, ReadAsks}
 use Rattle.buffer.proofs.OneStep.{without-last}
 use Rattle.buffer.proofs.InTurn.{opened-closed, can-deliver, can-arrive, state-2, can-ask, can-arrive-late, state-3}
 use Rattle.buffer.proofs.InTurn.{can-write, state-4, can-read, can-turn, all-in-turn}
-use Rattle.buffer.proofs.Promises.{judged-clear}
+use Rattle.buffer.proofs.Promises.{judged-clear, judged-carries}
 use Rattle.buffer_choices.specs.InTurn.{StepAnswers, ByContract, MakesTheSlot, StepsInTurn}
 
 -- An empty youngest cell owes nothing: with it or without it, the request is Owed alike.
@@ -81,18 +82,31 @@ module _ {x : State} {store : List ℕ} {call : Call} (accepted : Accepted paper
           (state-4 x store call accepted delivered early-is arrived asked-is late-is filled write-told wrote-is
           store-is)
 
+-- What is left of a call that was judged 0 is accepted.
+pub judged-accepted : {x : State} (store : List ℕ) (call : Call) {r : Judged} → JudgeSays x (length store) call r
+    → r .number ≡ 0 → Accepted paper x store (callIn (r .arrival) (r .request))
+judged-accepted {x} store call says z =
+    subst (Accepted paper x store) (sym (says .left-is z))
+    (accepted-facts paper x store call (judged-clear store says z))
+
 -- Calls that meet the contracts make the slot.
-module _ (s : code.State) (store : List ℕ) (arrival : Arrival) (request : Request) (g : StepAnswers)
-    (clear : refusal paper (stateOf s) store (callIn arrival request) ≡ 0)
-    (by : ByContract s store arrival request g) where
+module _ (s : code.State) (store : List ℕ) (asked-call : Call) (judged : Judged) (g : StepAnswers)
+    (says : JudgeSays (stateOf s) (length store) asked-call judged) (clear : judged .number ≡ 0)
+    (by : ByContract s store (judged .arrival) (judged .request) g) where
   abbrev x : State
   x = stateOf s
 
+  abbrev arrival : Arrival
+  arrival = judged .arrival
+
+  abbrev request : Request
+  request = judged .request
+
   abbrev call : Call
-  call = callIn arrival request
+  call = callIn (judged .arrival) (judged .request)
 
   accepted : Accepted paper x store call
-  accepted = accepted-facts paper x store call clear
+  accepted = judged-accepted store asked-call says clear
 
   state-1 : stateOf (g .after-deliver) ≡ opened x
   state-1 = by .deliver-says (can-deliver x store call accepted) .0
@@ -150,7 +164,7 @@ module _ (s : code.State) (store : List ℕ) (arrival : Arrival) (request : Requ
       can-turn x store call accepted state-1 early-is arrived asked-is late-is filled written-is wrote-is store-is
       read-is (by .read-says to-read)
 
-  in-turn : MakesTheSlot s store arrival request g
+  in-turn : MakesTheSlot s store asked-call judged g
   in-turn = record {
     deliver-can = can-deliver x store call accepted;
     arrive-early-can = to-arrive;
@@ -161,10 +175,10 @@ module _ (s : code.State) (store : List ℕ) (arrival : Arrival) (request : Requ
     turn-can = to-turn;
     answer-is =
         all-in-turn x store call accepted state-1 early-is arrived asked-is late-is filled written-is wrote-is store-is
-        read-is (by .read-says to-read) (by .turn-says to-turn)
-        (by .deliver-says (can-deliver x store call accepted) .1) clear;
+        read-is (by .read-says to-read) (judged .«arrival_number») (judged .«request_number») (by .turn-says to-turn)
+        (by .deliver-says (can-deliver x store call accepted) .1)
+        ∙ judged-carries store asked-call says clear;
   }
 
 pub steps-in-turn : StepsInTurn
-steps-in-turn s store arrival request judged g says zero-is by =
-    in-turn s store arrival request g (judged-clear store says zero-is) by
+steps-in-turn = in-turn

@@ -1,7 +1,6 @@
--- The six steps of a slot as methods, called in turn after a judgement of 0 and told by the four choices: whoever
--- calls them so gets the slot. The arrival's step is called before the request's and after it, one of the two with
--- no arrival.
--- It cites the contracts alone, so that it holds of whatever meets them.
+-- The six steps of a slot as methods, called in turn after a judgement of 0, with what that leaves of the call, and
+-- told by the four choices: whoever calls them so gets the slot. The arrival's step is called before the request's and
+-- after it, one of the two with no arrival. It cites the contracts alone, so that it holds of whatever meets them.
 use mathlib.Core.Path.{_≡_}
 use mathlib.Core.Bool.{Bool}
 use mathlib.Core.List.{List}
@@ -10,14 +9,15 @@ use Prim.Native.Nat.{ℕ, _<_}
 use lib.ListN.{length}
 use Rattle.model.specs.Basics.{choose}
 use Rattle.model.specs.Sizes.{paper}
-use Rattle.model.specs.Slot.{Answer, swaps, delivery, afterArrival, isOwed, afterRequest, queueToWrite, afterWrite}
-use Rattle.model.specs.Slot.{storeWritten, queueToRead, afterRead, afterPhase, slot}
+use Rattle.model.specs.Slot.{Call, Answer, swaps, delivery, afterArrival, isOwed, afterRequest, queueToWrite}
+use Rattle.model.specs.Slot.{afterWrite, storeWritten, queueToRead, afterRead, afterPhase, slot}
 use Rattle.layout.specs.declared.Chosen.{Chosen}
-use Rattle.layout.specs.Calls.{chosenIn, arrivalIn, requestIn, deliveryIn, callIn}
+use Rattle.layout.specs.Calls.{chosenIn, arrivalIn, requestIn, deliveryIn}
 use Rattle.layout.specs.declared.Arrival.{Arrival}
 use Rattle.layout.specs.declared.Request.{Request}
 use Rattle.layout.specs.declared.Delivery.{Delivery}
 use Rattle.buffer.specs.declared.State as code
+use Rattle.buffer.specs.declared.Judged.{Judged}
 use Rattle.buffer.specs.Says.{stateOf, JudgeSays}
 use Rattle.buffer.specs.OneStep.{opened, closed, CachesFit, DeliverAsks, AskAsks, WriteAsks, ReadAsks}
 
@@ -69,13 +69,13 @@ pub record ByContract (s : code.State) (store : List ℕ) (arrival : Arrival) (r
     pub turn-says : stateOf (g .after-read) .phase < stateOf (g .after-read) .sizes .b
         → stateOf (g .after-turn) ≡ afterPhase (stateOf (g .after-read))
 
--- The answer that the calls make together.
-abbrev pub answerOfSteps : StepAnswers → Answer
-answerOfSteps g = record {
+-- The answer that the calls make together, with the numbers of the halves that were judged.
+abbrev pub answerOfSteps : Judged → StepAnswers → Answer
+answerOfSteps judged g = record {
   reply = record {
     number = 0;
-    arrivalNumber = 0;
-    requestNumber = 0;
+    arrivalNumber = judged .«arrival_number»;
+    requestNumber = judged .«request_number»;
     delivered = deliveryIn (g .delivered);
     written = chosenIn (g .written);
     read = chosenIn (g .readQueue);
@@ -84,22 +84,21 @@ answerOfSteps g = record {
   store = g .store;
 }
 
--- Every step finds what it asks, and the answer is the slot's.
-pub record MakesTheSlot (s : code.State) (store : List ℕ) (arrival : Arrival) (request : Request)
-    (g : StepAnswers) : Type 0
+-- Every step finds what it asks, and the answer is the slot's of this call.
+pub record MakesTheSlot (s : code.State) (store : List ℕ) (call : Call) (judged : Judged) (g : StepAnswers) : Type 0
   where
     pub deliver-can : DeliverAsks (stateOf s)
     pub arrive-early-can : CachesFit (stateOf (g .after-deliver))
-    pub ask-can : AskAsks (stateOf (g .after-early)) (g .owing) (requestIn request)
+    pub ask-can : AskAsks (stateOf (g .after-early)) (g .owing) (requestIn (judged .request))
     pub arrive-late-can : CachesFit (stateOf (g .after-ask))
     pub write-can : WriteAsks (stateOf (g .after-late)) (chosenIn (g .written)) store
     pub read-can : ReadAsks (stateOf (g .after-write)) (chosenIn (g .readQueue)) (g .store)
     pub turn-can : stateOf (g .after-read) .phase < stateOf (g .after-read) .sizes .b
-    pub answer-is : answerOfSteps g ≡ slot paper (stateOf s) store (callIn arrival request)
+    pub answer-is : answerOfSteps judged g ≡ slot paper (stateOf s) store call
 
--- Of any state, store and call of which `State::judge` answered 0.
+-- Of any state, store and call of which `State::judge` answered 0, with what it left of the call.
 abbrev pub StepsInTurn : Type 0
 StepsInTurn =
-    (s : code.State) (store : List ℕ) (arrival : Arrival) (request : Request) (judged : ℕ) (g : StepAnswers)
-    → JudgeSays (stateOf s) (length store) (callIn arrival request) judged → judged ≡ 0
-    → ByContract s store arrival request g → MakesTheSlot s store arrival request g
+    (s : code.State) (store : List ℕ) (call : Call) (judged : Judged) (g : StepAnswers)
+    → JudgeSays (stateOf s) (length store) call judged → judged .number ≡ 0
+    → ByContract s store (judged .arrival) (judged .request) g → MakesTheSlot s store call judged g

@@ -241,13 +241,14 @@ pub fn owes_request(state: State, request: Request) -> bool
     }
 }
 
-// One slot, of any state and any store: judged, and where nothing is refused its steps in turn. Whether it swaps is
-// told by the state as it is handed in, each other choice by the state at hand. On a refusal the very record comes
-// back.
+// One slot, of any state and any store: judged, and where nothing stops it its steps in turn, with what is left of its
+// call. Whether it swaps is told by the state as it is handed in, each other choice by the state at hand. On a refusal
+// the very record comes back.
 pub fn in_turn(state: State, arrival: Arrival, request: Request, store: &mut [u8]) -> Slotted
     ensures { λ r. ⌜ SlotSays state (now (store .entry)) (callIn arrival request) r (now (store .exit)) ⌝ }
 {
-    let number = state.judge(arrival, request, store.len());
+    let judged = state.judge(arrival, request, store.len());
+    let number = judged.number;
     if number != 0 {
         let refused = layout::number_alone(number);
         return Slotted {
@@ -255,15 +256,17 @@ pub fn in_turn(state: State, arrival: Arrival, request: Request, store: &mut [u8
             reply: refused,
         };
     }
-    let swapping = swaps(state, arrival, request);
+    let comes = judged.arrival;
+    let asks = judged.request;
+    let swapping = swaps(state, comes, asks);
     let first = state.deliver();
     let delivery = first.delivery;
     let delivered = first.state;
-    let early = slot_plan::early_arrival(swapping, arrival);
+    let early = slot_plan::early_arrival(swapping, comes);
     let arrived = delivered.arrive(early);
-    let owing = owes_request(arrived, request);
-    let asked = arrived.ask(owing, request);
-    let late = slot_plan::late_arrival(swapping, arrival);
+    let owing = owes_request(arrived, asks);
+    let asked = arrived.ask(owing, asks);
+    let late = slot_plan::late_arrival(swapping, comes);
     let filled = asked.arrive(late);
     let written = to_write(filled);
     let wrote = filled.write(written, store);
@@ -274,8 +277,8 @@ pub fn in_turn(state: State, arrival: Arrival, request: Request, store: &mut [u8
         state: turned,
         reply: Reply {
             number: 0,
-            arrival_number: 0,
-            request_number: 0,
+            arrival_number: judged.arrival_number,
+            request_number: judged.request_number,
             delivery: delivery,
             written: written,
             read: readQueue,

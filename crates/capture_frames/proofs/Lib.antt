@@ -16,7 +16,7 @@ pub mod Good
 pub mod Commands
 -- The slots: their values, no request, eight queues.
 pub mod Slots
--- What the slots answer: 4 never, and on a store that is long enough no refusal but 5.
+-- What the slots answer: 4 never, and on a store that is long enough nothing but 5 for an arrival that is dropped.
 pub mod Answers
 -- What the request says, whole.
 pub mod Sentences

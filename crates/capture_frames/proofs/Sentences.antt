@@ -14,7 +14,7 @@ use Rattle.model.proofs.Demand.{every-list}
 use Rattle.capture_frames.specs.Frames.{headerBytes}
 use Rattle.capture_frames.specs.Script.{framesOf, captureScript, faulty, captureFault, captureNumber}
 use Rattle.capture_frames.specs.Script.{outputAfter}
-use Rattle.capture_frames.specs.Sentences.{Bytes, values, captureSlots, AnswersInOrder, CapturesSay}
+use Rattle.capture_frames.specs.Sentences.{Bytes, values, captureSlots, DropsOnly5, AnswersInOrder, CapturesSay}
 use Rattle.capture_frames.proofs.Order.{answers-1, answers-19, answers-17, answers-18, answers-none}
 use Rattle.capture_frames.proofs.Order.{fault-first, answers-16, answers-0}
 use Rattle.capture_frames.proofs.Headers.{good-is-named, named-is-good}
@@ -24,7 +24,7 @@ use Rattle.capture_frames.proofs.Commands.{commands-in-order, queue-of-
 use Rattle.capture_frames.proofs.Commands.{script-fits}
 use Rattle.capture_frames.proofs.Slots.{capture-slots, slots-values, AsksNothing, slots-ask-nothing}
 use Rattle.capture_frames.proofs.Slots.{ArrivesBelow, slots-of-eight}
-use Rattle.capture_frames.proofs.Answers.{ArrivalAnswers, run-answers, none-4, none-but-5}
+use Rattle.capture_frames.proofs.Answers.{ArrivalSays, run-answers, none-4, none-but-5}
 
 -- The slots of a good capture.
 module _ (s : Sizes) (capture store : List ℕ) (bytes : Bytes capture) (e : captureFault s capture ≡ 0) where
@@ -39,13 +39,13 @@ module _ (s : Sizes) (capture store : List ℕ) (bytes : Bytes capture) (e : cap
       subst (All (ArrivesBelow 8)) (sym (capture-slots s (framesOf capture)))
       (slots-of-eight (framesOf capture) (frames-bytes capture (framesOf capture) (good .frames-there) bytes))
 
-  answers : All (λ (step : Step). ArrivalAnswers (step .reply .number)) steps
+  answers : All (λ (step : Step). ArrivalSays (step .reply)) steps
   answers = run-answers paper 8 (fresh paper s) store (captureSlots s capture) (good .eight-queues) eight
 
   meets : ListMeets s store steps
   meets = every-list paperLimits s store (captureSlots s capture) (good .accepted)
 
-  only-full : storeBytes s ≤ length store → All (λ (step : Step). (step .reply .number ≡ 0 → ⊥) → step .reply .number ≡ 5) steps
+  only-full : storeBytes s ≤ length store → All DropsOnly5 steps
   only-full long = none-but-5 steps answers (meets .no-2 long) (meets .no-3) (meets .no-miss)
 
 -- The answers, by their laws.

@@ -63,6 +63,13 @@ frameSlots (frame ∷ frames) = slotsAt (queueOf frame) frame ++ frameSlots fram
 abbrev pub captureSlots : Sizes → List ℕ → List Call
 captureSlots s capture = slotsOfAll (captureCommands s (framesOf capture))
 
+-- A slot that runs, and of which no half is dropped but its arrival, with 5. Request 2.5: "5 and 7 refuse their half of
+-- the slot only. The slot runs without that half".
+pub record DropsOnly5 (step : Step) : Type 0 where
+  pub runs : step .reply .number ≡ 0
+  pub arrival-5 : (step .reply .arrivalNumber ≡ 0 → ⊥) → step .reply .arrivalNumber ≡ 5
+  pub no-request : step .reply .requestNumber ≡ 0
+
 -- The answers in their order.
 pub record AnswersInOrder (s : Sizes) (capture : List ℕ) : Type 0 where
   pub one : accepts paperLimits s ≡ false → captureFault s capture ≡ 1
@@ -112,7 +119,7 @@ pub record CapturesSay : Type 0 where
   pub nothing-asked :
       (s : Sizes) (capture : List ℕ) → All (λ (call : Call). call .request ≡ none) (captureSlots s capture)
   -- The priority has three bits. So every queue is one of the 8 or more that 19 asks for, and 4 never comes; on a store
-  -- that is long enough no slot is refused but where its queue is full (5).
+  -- that is long enough no slot is refused, and where its queue is full it runs without its arrival, which gets 5.
   pub queue-of-eight : (frame : List ℕ) → Bytes frame → queueOf frame < 8
   pub never-4 :
       (s : Sizes) (capture store : List ℕ) → Bytes capture → captureFault s capture ≡ 0
@@ -120,7 +127,7 @@ pub record CapturesSay : Type 0 where
   pub only-5 :
       (s : Sizes) (capture store : List ℕ) → Bytes capture → captureFault s capture ≡ 0
       → storeBytes s ≤ length store
-      → All (λ (step : Step). (step .reply .number ≡ 0 → ⊥) → step .reply .number ≡ 5) (listOf paper s store (captureSlots s capture))
+      → All DropsOnly5 (listOf paper s store (captureSlots s capture))
   -- How long a script is, and an output that always has room for it: three bytes for each of the capture's.
   pub length-is :
       (s : Sizes) (capture : List ℕ)

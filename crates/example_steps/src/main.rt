@@ -6,25 +6,29 @@ use layout::Request;
 
 // One slot: prints what it moved, and hands its state on.
 fn in_steps(t: u64, state: State, arrival: Arrival, request: Request, store: &mut [u8]) -> State {
-    let number = state.judge(arrival, request, store.len());
+    let judged = state.judge(arrival, request, store.len());
+    let number = judged.number;
     if number != 0 {
         example_print::refusal(t, number);
         return state;
     }
+    // What is left of the call: a half that is dropped never came.
+    let comes = judged.arrival;
+    let asks = judged.request;
     // Whether the slot swaps, by the state as it is handed in.
-    let swapping = buffer_choices::swaps(state, arrival, request);
+    let swapping = buffer_choices::swaps(state, comes, asks);
     // 1. The oldest cell leaves.
     let first = state.deliver();
     let delivery = first.delivery;
     let delivered = first.state;
     // 2. The arriving byte joins the tail, or waits for the request to make room.
-    let early = slot_plan::early_arrival(swapping, arrival);
+    let early = slot_plan::early_arrival(swapping, comes);
     let arrived = delivered.arrive(early);
     // 3. The request takes the youngest cell.
-    let owing = buffer_choices::owes_request(arrived, request);
-    let asked = arrived.ask(owing, request);
+    let owing = buffer_choices::owes_request(arrived, asks);
+    let asked = arrived.ask(owing, asks);
     // 2, where it has waited.
-    let late = slot_plan::late_arrival(swapping, arrival);
+    let late = slot_plan::late_arrival(swapping, comes);
     let filled = asked.arrive(late);
     // 4. First a write, then a read, if the phase is b - 1.
     let written = buffer_choices::to_write(filled);

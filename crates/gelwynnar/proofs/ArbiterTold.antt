@@ -23,7 +23,8 @@ use Rattle.gelwynnar.specs.Arbiter.{arbiterTold, askedBy, ArbiterLentSay
 
 pub lent-told : {regs : Regs} (m : Arrays) {store : List ℕ} {regs′ : Regs} {m′ : Arrays} {store′ : List ℕ}
     {read : Option Byte} (arrival : Option Byte) {r : Arbitrated} {a : ArbiterAnswer} → read ≡ nearByte arrival
-    → ArbiterAdvanceSays regs m store read r regs′ m′ store′ → a ≡ arbiterTold (replyIn (r .reply)) (requestIn (r .asked))
+    → ArbiterAdvanceSays regs m store read r regs′ m′ store′
+    → a ≡ arbiterTold (replyIn (r .reply)) (requestIn (r .asked))
     → ArbiterLentSays regs m store arrival a regs′ m′ store′
 lent-told {regs} m {store} {regs′} {m′} {store′} {read} arrival {r} {a} near says tells = record {
   answer-is =

@@ -6,6 +6,7 @@ use lib.ListN.{length}
 use Rattle.model.specs.Sizes.{paper}
 use Rattle.model.specs.Slot as model
 use Rattle.model.specs.Slot.{Call, numberAlone, refuse, slot}
+use Rattle.model.proofs.one_slot.Accepted.{RefusedOrAccepted, was-refused, was-accepted, outcome}
 use Rattle.layout.specs.Counts.{ByQueue}
 use Rattle.layout.specs.Calls.{arrivalIn, requestIn, callIn, replyIn}
 use Rattle.layout.specs.declared.Arrival.{Arrival}
@@ -26,18 +27,19 @@ use Rattle.idle_in_place.specs.declared.Passed.{Passed}
 use Rattle.gelwynnar.specs.declared.slots.Answer.{Answer}
 use Rattle.gelwynnar.specs.declared.slots.DeliveryFields.{DeliveryFields}
 use Rattle.gelwynnar.specs.declared.slots.ChosenFields.{ChosenFields}
-use Rattle.gelwynnar.specs.Slots.{flag, queueTold, deliveryTold, valueTold, told}
-use Rattle.gelwynnar.specs.Slots.{SlotLentSays, IdleLentSays}
+use Rattle.gelwynnar.specs.Slots.{flag, queueTold, deliveryTold, valueTold, droppedTold, told}
+use Rattle.gelwynnar.specs.Slots.{SlotLentSays, JudgeLentSays, IdleLentSays}
 
 -- Each field of an answer by itself.
-pub told-fields : (t : model.Reply) {gave : DeliveryFields} {wrote fetched : ChosenFields}
+pub told-fields : (t : model.Reply) {dropped : ℕ} {gave : DeliveryFields} {wrote fetched : ChosenFields}
+    → dropped ≡ droppedTold (t .arrivalNumber) (t .requestNumber)
     → (gave .delivers ≡ flag (t .delivered)) × (gave .value ≡ valueTold (t .delivered))
     × (gave .queue ≡ deliveryTold (t .delivered))
     → (wrote .moves ≡ flag (t .written)) × (wrote .queue ≡ queueTold (t .written))
     → (fetched .moves ≡ flag (t .read)) × (fetched .queue ≡ queueTold (t .read))
     → _≡_ {A = Answer} (record {
       number = t .number;
-      dropped = 0;
+      dropped = dropped;
       delivers = gave .delivers;
       writes = wrote .moves;
       reads = fetched .moves;
@@ -47,7 +49,7 @@ pub told-fields : (t : model.Reply) {gave : DeliveryFields} {wrote fetched : Cho
       read = fetched .queue;
       «slots_left» = 0;
     }) (told t)
-told-fields t d w r = rw (d .0, d .1, d .2, w .0, w .1, r .0, r .1)
+told-fields t x d w r = rw (x, d .0, d .1, d .2, w .0, w .1, r .0, r .1)
 
 -- A run of one call, told: `regs` is what the array of registers held, `regs′` what it holds then.
 pub stepped : {regs : Regs} (regs′ : Regs) (m m′ : Arrays) {store store′ : List ℕ} {call : Call} (r : Reply)
@@ -133,13 +135,40 @@ module _ {regs : Regs} (m : Arrays) (store : List ℕ) {before : Regs} (read-in 
       → SlotLentSays regs m store call a regs′ m′ store′ × LeaveSays regs m counts store regs′ m′ counts″ store′
   slot-stepped z says = (says .0, leaves-ready regs m store (here .0) z (says .1))
 
--- The number of a slot, by what is decided of it.
-pub number-judged : {regs : Regs} (m : Arrays) {bytes : ℕ} {before : Regs} → before ≡ regs
-    → (call : Call) (arrival : Arrival) (request : Request) {r : Plan}
-    → PlanCheckedSays (stateIn before m) bytes (callIn arrival request) r
-    → arrivalIn arrival ≡ nearByte (call .arrival) → requestIn request ≡ nearQueue (call .request)
-    → (store : List ℕ) → length store ≡ bytes → r .number ≡ slot paper (stateIn regs m) store call .reply .number
-number-judged {regs} m {before = before} read-in call arrival request says ea er store long =
-    says .number-is store long
-    ∙ ap (λ (a : model.Answer). a .reply .number) (read-slot (stateIn before m) store call ea er)
-    ∙ ap (λ (k : Regs). slot paper (stateIn k m) store call .reply .number) read-in
+-- What is judged of a slot, by what is decided of it.
+module _ {regs : Regs} (m : Arrays) {bytes : ℕ} {before : Regs} (read-in : before ≡ regs) (call : Call)
+    (arrival : Arrival) (request : Request) {p : Plan}
+    (says : PlanCheckedSays (stateIn before m) bytes (callIn arrival request) p)
+    (ea : arrivalIn arrival ≡ nearByte (call .arrival)) (er : requestIn request ≡ nearQueue (call .request)) where
+  -- The slot of the call's halves as the code reads them is the slot of the call.
+  is-slot : (store : List ℕ)
+      → slot paper (stateIn before m) store (callIn arrival request) ≡ slot paper (stateIn regs m) store call
+  is-slot store =
+      read-slot (stateIn before m) store call ea er ∙ ap (λ (k : Regs). slot paper (stateIn k m) store call) read-in
+
+  number-judged : (store : List ℕ) → length store ≡ bytes
+      → p .number ≡ slot paper (stateIn regs m) store call .reply .number
+  number-judged store l = says .number-is store l ∙ ap (λ (a : model.Answer). a .reply .number) (is-slot store)
+
+  pub judged-stopped : (p .number ≡ 0 → ⊥)
+      → JudgeLentSays (stateIn regs m) bytes call (record { number = p .number; dropped = 0 })
+  judged-stopped n = record {
+    number-is = number-judged;
+    dropped-is = λ store l. stops (slot paper (stateIn regs m) store call) (outcome paper (stateIn regs m) store call)
+        (λ z. n (number-judged store l ∙ z));
+  }
+    where
+      stops : {store : List ℕ} (a : model.Answer) → RefusedOrAccepted paper (stateIn regs m) store call a
+          → (a .reply .number ≡ 0 → ⊥) → 0 ≡ droppedTold (a .reply .arrivalNumber) (a .reply .requestNumber)
+      stops a (was-refused k e) f = refl
+      stops a (was-accepted e) f = absurd (f refl)
+
+  pub judged-going-on : p .number ≡ 0 → {dropped : ℕ}
+      → dropped ≡ droppedTold (p .«arrival_number») (p .«request_number»)
+      → JudgeLentSays (stateIn regs m) bytes call (record { number = 0; dropped = dropped })
+  judged-going-on z e = record {
+    number-is = λ store l. sym z ∙ number-judged store l;
+    dropped-is = λ store l.
+        e ∙ ap (λ (a : model.Answer). droppedTold (a .reply .arrivalNumber) (a .reply .requestNumber))
+        (says .carries z store l ∙ is-slot store);
+  }

@@ -3,7 +3,7 @@ use mathlib.Core.Path.{_≡_}
 use mathlib.Core.Bool.{true, false}
 use mathlib.Core.List.{List}
 use mathlib.Core.Option.{Option, some, none}
-use Prim.Native.Nat.{ℕ, _-_, _≤_}
+use Prim.Native.Nat.{ℕ, zero, suc, _-_, _≤_}
 use lib.ListN.{length}
 use Rattle.model.specs.Basics.{All}
 use Rattle.model.specs.Sizes.{sizes, paperLimits, accepts, paper, storeBytes}
@@ -19,6 +19,7 @@ use Rattle.layout.specs.Views.{Arrays, regsIn, stateIn}
 use Rattle.layout.specs.Fresh.{freshRegs, freshArrays, freshCounts}
 use Rattle.slot_in_place.specs.Says.{Ready}
 use Rattle.gelwynnar.specs.declared.slots.Answer.{Answer}
+use Rattle.gelwynnar.specs.declared.slots.Judgement.{Judgement}
 use Rattle.gelwynnar.specs.declared.slots.Stretched.{Stretched}
 
 -- An answer as numbers: 1 and its queue where there is one, else 0 and 0.
@@ -38,11 +39,18 @@ abbrev pub valueTold : Option Byte → ℕ
 valueTold none = 0
 valueTold (some y) = y .value
 
--- No slot of this model drops a half or tells how many slots are left.
+-- Which halves were dropped: 1 the arrival, 2 the request, 3 both.
+abbrev pub droppedTold : ℕ → ℕ → ℕ
+droppedTold zero zero = 0
+droppedTold (suc m) zero = 1
+droppedTold zero (suc n) = 2
+droppedTold (suc m) (suc n) = 3
+
+-- No slot of this model tells how many slots are left.
 abbrev pub told : model.Reply → Answer
 told r = record {
   number = r .number;
-  dropped = 0;
+  dropped = droppedTold (r .arrivalNumber) (r .requestNumber);
   delivers = flag (r .delivered);
   writes = flag (r .written);
   reads = flag (r .read);
@@ -73,6 +81,13 @@ pub record SlotLentSays (regs : Regs) (m : Arrays) (store : List ℕ) (call : Ca
   pub state-is : stateIn regs′ m′ ≡ slot paper (stateIn regs m) store call .state
   pub store-is : store′ ≡ slot paper (stateIn regs m) store call .store
   pub as-given : (r .number ≡ 0 → ⊥) → (regs′ ≡ regs) × (m′ ≡ m)
+
+-- What a slot would answer, with any store of so many bytes: its number, and which halves it would drop.
+pub record JudgeLentSays (x : State) (bytes : ℕ) (call : Call) (r : Judgement) : Type 0 where
+  pub number-is : (store : List ℕ) → length store ≡ bytes → r .number ≡ slot paper x store call .reply .number
+  pub dropped-is : (store : List ℕ) → length store ≡ bytes
+      → r .dropped
+      ≡ droppedTold (slot paper x store call .reply .arrivalNumber) (slot paper x store call .reply .requestNumber)
 
 -- One stretch of at most n idle slots: how many passed, all but the last being quiet, what the last of them answered,
 -- the whole state and the whole store as they leave them.

@@ -5,9 +5,7 @@ ghost use mathlib.Core.Path.{_≡_};
 ghost use mathlib.Core.List.{List};
 ghost use Prim.Native.Nat.{ℕ};
 ghost use lib.ListN.{length};
-ghost use Rattle.model.specs.Sizes.{paper};
 ghost use Rattle.model.specs.State.{margin};
-ghost use Rattle.model.specs.Slot.{slot};
 ghost use Rattle.layout.specs.Calls.{chosenIn, deliveryIn, replyIn};
 ghost use Rattle.layout.specs.Lent.{given, found, left, countsGiven, countsFound, countsLeft};
 ghost use Rattle.layout.specs.Lengths.{headPlaces, cellPlaces};
@@ -16,8 +14,8 @@ ghost use Rattle.slot_in_place.specs.Says.{Ready};
 ghost use Rattle.slot_checked.specs.Says.{judgedNumber, LeaveSays};
 ghost use Rattle.run_words.specs.Words.{callOf};
 ghost use Rattle.run_checked.specs.Says.{RunCheckedSays};
-ghost use Rattle.gelwynnar.specs.Slots.{flag, queueTold, deliveryTold, valueTold, told};
-ghost use Rattle.gelwynnar.specs.Slots.{OpenSays, SlotLentSays, IdleLentSays};
+ghost use Rattle.gelwynnar.specs.Slots.{flag, queueTold, deliveryTold, valueTold, droppedTold, told};
+ghost use Rattle.gelwynnar.specs.Slots.{OpenSays, SlotLentSays, JudgeLentSays, IdleLentSays};
 use layout::CELL_PLACES;
 use layout::CellArray;
 use layout::Chosen;
@@ -33,7 +31,8 @@ use layout::RingArray;
 use layout::TAIL_PLACES;
 use layout::TailArray;
 
-// What a slot answers. Where `number` is not 0 all else is 0. `dropped` and `slots_left` are for requests to come.
+// What a slot answers. Where `number` is not 0 all else is 0. `dropped` is 1 where the arrival was dropped (5), 2 where
+// the request was (7), 3 where both were, else 0. `slots_left` is for a request to come.
 #[repr(C)]
 pub struct Answer {
     pub number: u8,
@@ -98,6 +97,22 @@ fn chosen_fields(chosen: Chosen) -> ChosenFields
     }
 }
 
+// Which halves were dropped, by their numbers.
+fn dropped_field(arrival_number: u8, request_number: u8) -> u8
+    ensures { λ r. ⌜ r ≡ droppedTold «arrival_number» «request_number» ⌝ }
+{
+    if arrival_number != 0 {
+        if request_number != 0 {
+            return 3;
+        }
+        return 1;
+    }
+    if request_number != 0 {
+        return 2;
+    }
+    0
+}
+
 // What a slot tells as fields.
 pub fn tell(reply: Reply) -> Answer
     ensures { λ r. ⌜ r ≡ told (replyIn reply) ⌝ }
@@ -105,12 +120,13 @@ pub fn tell(reply: Reply) -> Answer
     let delivery = reply.delivery;
     let written = reply.written;
     let read = reply.read;
+    let dropped = dropped_field(reply.arrival_number, reply.request_number);
     let gave = delivery_fields(delivery);
     let wrote = chosen_fields(written);
     let fetched = chosen_fields(read);
     Answer {
         number: reply.number,
-        dropped: 0,
+        dropped: dropped,
         delivers: gave.delivers,
         writes: wrote.moves,
         reads: fetched.moves,
@@ -350,7 +366,14 @@ pub extern "C" fn gel_idle(
     }
 }
 
-// The number that a slot answers, of any state and any store of so many bytes. Nothing changes.
+// What is judged of a slot: its number, and which halves it would drop, as in an answer.
+#[repr(C)]
+pub struct Judgement {
+    pub number: u8,
+    pub dropped: u8,
+}
+
+// What a slot would answer, of any state and any store of so many bytes. Nothing changes.
 #[no_mangle]
 pub extern "C" fn gel_judge<'a>(
     regs: &'a RegArray,
@@ -361,11 +384,10 @@ pub extern "C" fn gel_judge<'a>(
     stored: &'a RingArray,
     call: u64,
     store_bytes: usize,
-) -> u8
+) -> Judgement
     requires { ⌜ Long (given tail head cells firsts stored) ⌝ }
-    ensures { λ r. ⌜ ((store : List ℕ) → length store ≡ «store_bytes»
-        → r ≡ slot paper (stateIn (regsIn (now (regs .entry))) (found tail head cells firsts stored)) store
-        (callOf call) .reply .number) ⌝ }
+    ensures { λ r. ⌜ JudgeLentSays (stateIn (regsIn (now (regs .entry))) (found tail head cells firsts stored))
+        «store_bytes» (callOf call) r ⌝ }
 {
     let now = layout::regs_in(regs);
     let arrival = run_words::arrival_in(call);
@@ -381,7 +403,18 @@ pub extern "C" fn gel_judge<'a>(
         request,
         store_bytes,
     );
-    plan.number
+    let number = plan.number;
+    if number != 0 {
+        return Judgement {
+            number: number,
+            dropped: 0,
+        };
+    }
+    let dropped = dropped_field(plan.arrival_number, plan.request_number);
+    Judgement {
+        number: 0,
+        dropped: dropped,
+    }
 }
 
 // The margin of a queue, of any state: the other arrays have no say in it.

@@ -1,6 +1,6 @@
 -- A stretch of idle slots is quiet slots and perhaps one slot more, which answers as the model's slot on what the quiet
 -- ones leave.
-use mathlib.Core.Path.{_≡_, refl, ap, sym, _∙_, subst}
+use mathlib.Core.Path.{_≡_, ap, sym, _∙_, subst}
 use mathlib.Core.List.{List, [], _∷_, _++_}
 use Prim.Native.Nat.{ℕ, _+_, _-_, _≤_}
 use native.Mathlib.Omega.{arith}

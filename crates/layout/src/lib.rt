@@ -30,8 +30,8 @@ pub enum Chosen {
     Nothing,
 }
 
-// What a slot tells: the paper's number or 0, a number for each of its halves, which request 2.5 will give, the delivery,
-// the queues written and read.
+// What a slot tells: the paper's number or 0, the number of each half that was dropped, 5 and 7, or 0, the
+// delivery, the queues written and read.
 pub struct Reply {
     pub number: u8,
     pub arrival_number: u8,

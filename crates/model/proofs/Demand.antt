@@ -14,8 +14,8 @@ use borrow.Author.Tests.{le-leb, le-ltb}
 use Rattle.model.specs.Basics.{tabulate, All, when}
 use Rattle.model.specs.Sizes.{Sizes, Limits, accepts, span, lookahead, storeBytes, full}
 use Rattle.model.specs.State.{Byte, empty, State, fresh, owedOf, keeps}
-use Rattle.model.specs.Slot.{Call, oldestCell, wrote, queueToRead, arrivalUnknown, arrivalFull, requestUnknown}
-use Rattle.model.specs.Slot.{nothingToTake, leavesUncovered, tailFull, headFull, refusals, Answer, slot}
+use Rattle.model.specs.Slot.{Call, oldestCell, wrote, queueToRead, arrivalUnknown, requestUnknown}
+use Rattle.model.specs.Slot.{halvesTaken, leavesUncovered, tailFull, headFull, refusals, Answer, slot}
 use Rattle.model.specs.Lists.{Step, stepOf, listOf, accepted, requestAt, dueToAll}
 use Rattle.model.specs.Arbiter.{noting}
 use Rattle.model.specs.Chains.{Chain}
@@ -28,7 +28,7 @@ use Rattle.model.proofs.basics.Rings.{ring-fresh}
 use Rattle.model.proofs.meaning.Steps.{head-looked-at}
 use Rattle.model.proofs.one_slot.Rules.{keeps-holds}
 use Rattle.model.proofs.one_slot.Accepted.{RefusedOrAccepted, was-refused, was-accepted, outcome}
-use Rattle.model.proofs.one_slot.Kept.{looked-at-fits, accept-kept}
+use Rattle.model.proofs.one_slot.Kept.{looked-at-fits, carried-kept}
 use Rattle.model.proofs.one_slot.Chains.{Links, no-link, link, links, run-chain}
 use Rattle.model.proofs.no_miss.Good.{Good, slot-good, good-fresh, good-noted}
 use Rattle.model.proofs.delay.IdealSlot.{same-ideal}
@@ -67,11 +67,12 @@ module _ (limits : Limits) where
     head-ends = g .kept .head-fits;
   }
   call-caches x store call a noted g (was-accepted f) =
-      let k = accept-kept (full limits) x store call (omega arith) f .kept in record {
+      let left = halvesTaken x call in
+      let k = carried-kept (full limits) x store left (omega arith) {i = 0} {j = 0} f .kept in record {
         tail-joined =
-            omega (arith, looked-at-fits (full limits) x store call (omega arith) (f .judged), k .tail-fits);
+            omega (arith, looked-at-fits (full limits) x store left (omega arith) (f .judged), k .tail-fits);
         tail-ends = k .tail-fits;
-        head-read = omega (arith, head-looked-at x store call, k .head-fits);
+        head-read = omega (arith, head-looked-at x store left, k .head-fits);
         head-ends = k .head-fits;
       }
 
@@ -89,7 +90,7 @@ module _ (limits : Limits) where
     reads-nothing = λ z. absurd (z refl);
   }
 
-  -- 8, 9 and 10 never come, since every refusal is 7 or lower.
+  -- 8, 9 and 10 never come, since every refusal is 6 or lower.
   no-miss : (x : State) (store : List ℕ) (call : Call) (a : Answer) (noted : ℕ) → Good limits x
       → RefusedOrAccepted (full limits) x store call a → NoMiss (stepOf x store call (noting noted a))
   no-miss x store call a noted g t =
@@ -110,15 +111,16 @@ module _ (limits : Limits) where
       when-excluded bad (not (keeps (full limits) x)) 3 pos three
       also when-excluded bad (ltb (length store) (storeBytes (x .sizes))) 2 pos two
       also later (arrivalUnknown x (call .arrival)) 4 (omega arith)
-      also later (arrivalFull x (call .arrival) (call .request)) 5 (omega arith)
       also later (requestUnknown x (call .request)) 6 (omega arith)
-      also later (nothingToTake x (call .arrival) (call .request)) 7 (omega arith)
       also later (leavesUncovered (oldestCell (x .cells)) x) 8 (omega arith)
-      also later (tailFull x (call .arrival) (call .request)) 9 (omega arith)
-      also later (headFull (wrote x call) (queueToRead (wrote x call))) 10 (omega arith)
+      also later (tailFull x (left .arrival) (left .request)) 9 (omega arith)
+      also later (headFull (wrote x left) (queueToRead (wrote x left))) 10 (omega arith)
       also tt)
       (f ∙ e)
     where
+      left : Call
+      left = halvesTaken x call
+
       later : (t : Bool) (k : ℕ) → 3 < k → when t k ≡ bad → ⊥
       later t k l = when-excluded bad t k pos (λ h. absurd (omega (arith, h)))
 
@@ -192,6 +194,15 @@ pub every-list : (limits : Limits) (s : Sizes) (store : List ℕ) (calls : List 
 every-list limits s store calls e =
     every-chain limits s store (listOf (full limits) s store calls) _ e
     (run-chain (full limits) (fresh (full limits) s) store calls)
+
+-- And no slot of it is refused but with 6 or lower.
+pub list-stops-low : (limits : Limits) (s : Sizes) (store : List ℕ) (calls : List Call) → accepts limits s ≡ true
+    → All (λ (step : Step). step .reply .number ≤ 6) (listOf (full limits) s store calls)
+list-stops-low limits s store calls e =
+    along limits (λ (step : Step). step .reply .number ≤ 6) s (length store)
+    (λ y st call a noted g f l t. slot-good limits y st call a g t .low)
+    (links (full limits) (run-chain (full limits) (fresh (full limits) s) store calls)) (good-fresh limits s e)
+    refl refl
 
 -- The whole of demand 3, under any limits; under the paper's it is demand 3 of the accepted sizes.
 pub demand-3 : (limits : Limits) → Demand-3 limits

@@ -12,7 +12,8 @@ use Rattle.model.specs.Basics.{choose}
 use Rattle.model.specs.Sizes.{Sizes, Design}
 use Rattle.model.specs.State.{Byte, State, fresh}
 use Rattle.model.specs.Slot.{Call, oldestCell, arriving, tailLeft, swaps, earlyArrival, lateArrival, joined}
-use Rattle.model.specs.Slot.{asked, headRead, wrote, wroteStore, Answer, accept, slot}
+use Rattle.model.specs.Slot.{asked, headRead, wrote, wroteStore, halvesTaken, Answer, carriedOut}
+use Rattle.model.specs.Slot.{slot}
 use Rattle.model.specs.Lists.{Step, joinedFillOf, stepOf, run, lastState, listOf, accepted}
 use Rattle.model.specs.Arbiter.{noting}
 use Rattle.model.specs.Chains.{Chain}
@@ -29,7 +30,7 @@ use Rattle.model.proofs.one_slot.Chains.{Links, no-link, link, links, r
 -- the rules, since the mark of such a state is at least its fill already. (Of the head it is `head-mark-rises`, in
 -- proofs/meaning/Steps.)
 pub tail-mark-rises : (x : State) (store : List ℕ) (call : Call) → length (x .tail) ≤ x .tailMark
-    → accept x store call .state .tailMark ≡ max (x .tailMark) (joinedFillOf 0 x call)
+    → carriedOut 0 0 x store call .state .tailMark ≡ max (x .tailMark) (joinedFillOf 0 x call)
 tail-mark-rises x store call h =
     by-test (swaps x (call .arrival) (call .request))
     (λ t. omega (
@@ -63,7 +64,7 @@ module _ (design : Design) where
   marks-more x store call a noted rest y (was-accepted f) m = record {
     tail-mark = m .tail-mark
         ∙ ap (λ (n : ℕ). max n (greatest (tailLooks (accepted rest))))
-        (tail-mark-rises x store call (f .judged .kept .tail-mark .0))
+        (tail-mark-rises x store (halvesTaken x call) (f .judged .kept .tail-mark .0))
         ∙ max-assoc _ _ (greatest (tailLooks (accepted rest)));
     head-mark = m .head-mark ∙ max-assoc _ _ (greatest (headLooks (accepted rest)));
   }
@@ -95,14 +96,17 @@ module _ (design : Design) where
 
   -- When a mark stays.
   module _ (x : State) (store : List ℕ) (call : Call) where
-    no-arrival : call .arrival ≡ none → slot design x store call .state .tailMark ≡ x .tailMark
+    abbrev left : Call
+    left = halvesTaken x call
+
+    no-arrival : left .arrival ≡ none → slot design x store call .state .tailMark ≡ x .tailMark
     no-arrival e = go (slot design x store call) (outcome design x store call)
       where
-        joins-none : joinedFillOf 0 x call ≡ length (x .tail)
+        joins-none : joinedFillOf 0 x left ≡ length (x .tail)
         joins-none =
             omega (
               arith,
-              tail-looked-at x call (ap (λ o. swaps x o (call .request)) e),
+              tail-looked-at x left (ap (λ o. swaps x o (left .request)) e),
               ap (λ o. length (arriving o)) e,
             )
 
@@ -111,7 +115,7 @@ module _ (design : Design) where
         go a (was-accepted f) =
             omega (
               arith,
-              tail-mark-rises x store call (f .judged .kept .tail-mark .0),
+              tail-mark-rises x store left (f .judged .kept .tail-mark .0),
               joins-none,
               f .judged .kept .tail-mark,
             )
@@ -125,7 +129,7 @@ module _ (design : Design) where
         go a (was-accepted f) e =
             omega (
               arith,
-              ap (λ o. length (headRead o (wrote x call) (wroteStore x store call))) e,
+              ap (λ o. length (headRead o (wrote x left) (wroteStore x store left))) e,
               length-head-without (oldestCell (x .cells)) (x .head),
               f .judged .kept .head-mark,
             )

@@ -21,6 +21,8 @@ pub mod Demand
 pub mod arbiter
 -- Request 2.1: what a slot that swaps does, and that all others are as before.
 pub mod Swaps
+-- Request 2.5: what a slot does of which a half is dropped.
+pub mod Halves
 -- The high marks are the greatest fills.
 pub mod HighMarks
 -- The paper's examples and its numbers at their ends, computed.

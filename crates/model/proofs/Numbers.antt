@@ -15,8 +15,9 @@ use Rattle.model.specs.Sizes.{sizes, paper, cycleTime, sizingNumber, siz
 use Rattle.model.specs.State.{byte, empty, owed, fresh}
 use Rattle.model.specs.Slot.{refusal}
 use Rattle.model.specs.Calls.{arrival, request, both, idle}
-use Rattle.model.specs.Examples.{refused, reads, _delivering_, _⇒_, made_phase_tail_head_cells_blocks_}
-use Rattle.model.specs.Examples.{slots, holds, sizesTaken, sizesRefused, sizesAre, blockIs, noBlock}
+use Rattle.model.specs.Examples.{taken, drops, refused, reads, _delivering_, _⇒_}
+use Rattle.model.specs.Examples.{made_phase_tail_head_cells_blocks_, slots, holds, sizesTaken, sizesRefused}
+use Rattle.model.specs.Examples.{sizesAre, blockIs, noBlock}
 use Rattle.model.proofs.basics.Tests.{by-test}
 use Rattle.model.proofs.basics.AllOf.{all-below-facts}
 
@@ -96,18 +97,18 @@ first-judged = refl
 pub then-by-number : allOf holds (
     -- 4 and 6: both queues unknown.
     slots paper (fresh paper (sizes 1 1 1)) (both 1 65 1 ⇒ refused 4 ∷ []) ∷
-    -- 5 and 6: a full queue, and an unknown one.
+    -- 5 and 6: a full queue, and an unknown one. The stop is the only answer.
     slots paper (made (sizes 1 1 1) phase 0 tail [] head [] cells (empty ∷ []) blocks (1 ∷ []))
-    (both 0 65 1 ⇒ refused 5 ∷ []) ∷
-    -- 5 and 7: queue 0 full, queue 1 with nothing to take.
+    (both 0 65 1 ⇒ refused 6 ∷ []) ∷
+    -- 5 and 7, which come together: queue 0 full, queue 1 with nothing to take.
     slots paper (made (sizes 2 1 1) phase 0 tail [] head [] cells (empty ∷ []) blocks (1 ∷ 0 ∷ []))
-    (both 0 65 1 ⇒ refused 5 ∷ []) ∷
+    (both 0 65 1 ⇒ drops 5 7 taken ∷ []) ∷
     -- 6 and 8: an unknown queue, and an Owed cell that leaves uncovered.
     slots paper (made (sizes 1 2 1) phase 0 tail [] head [] cells (owed 0 ∷ empty ∷ []) blocks (1 ∷ []))
     (request 1 ⇒ refused 6 ∷ []) ∷
     -- 7 and 8: the same cell, and nothing to take in queue 1.
     slots paper (made (sizes 2 2 1) phase 0 tail [] head [] cells (owed 0 ∷ replicate 2 empty) blocks (1 ∷ 0 ∷ []))
-    (request 1 ⇒ refused 7 ∷ []) ∷
+    (request 1 ⇒ refused 8 ∷ []) ∷
     -- 8 and 9: the same cell, and a full tail.
     slots paper
     (made (sizes 1 2 3) phase 0 tail (replicate 3 (byte 0 65)) head [] cells (owed 0 ∷ empty ∷ []) blocks (1 ∷ []))

@@ -24,6 +24,7 @@ use Rattle.model.proofs.one_slot.Swap.{Swap, swap-facts, swap-taken, sw
 use Rattle.model.proofs.one_slot.Swap.{swap-finds-a-place, swap-takes-an-old-byte, swap-looked-at}
 use Rattle.model.proofs.one_slot.Swap.{swap-keeps-the-mark, request-first, five-as-before, nine-as-before}
 use Rattle.model.proofs.one_slot.Swap.{asked-as-before}
+use Rattle.model.proofs.one_slot.Halves.{swap-left}
 use Rattle.model.proofs.one_slot.Accepted.{Judged, accepted-facts}
 
 first-there : (vs : List ℕ) → 1 ≤ length vs → getElem? vs 0 ≡ some (getD vs 0 0)
@@ -81,7 +82,8 @@ module _ (design : Design) (x : State) (store : List ℕ) (call : Call)
   }
     where
       judged : Judged design x store call
-      judged = accepted-facts design x store call none-refuses .judged
+      judged =
+          subst (Judged design x store) (swap-left x call t) (accepted-facts design x store call none-refuses .judged)
 
       covered : leavesUncovered (oldestCell (x .cells)) x ≡ false
       covered = judged .covered
@@ -105,7 +107,8 @@ module _ (design : Design) (x : State) (store : List ℕ) (call : Call)
 
 pub swap-says : (design : Design) → SwapSays design
 swap-says design = record {
-  is-accepted = λ x store call t. is-accepted design x store call t;
+  is-accepted = λ x store call t kept long covered room.
+      (is-accepted design x store call t kept long covered room, swap-left x call t);
   request-first = λ x call t kept. request-first x call t (keeps-facts design x kept .tail-mark .0);
   takes-an-old-byte = λ x store call t. swapped design x store call t;
   nine-after = λ x call t. nine-after design x [] call t;

@@ -5,6 +5,7 @@ pub mod Rules
 pub mod StepsKeepRules
 pub mod MovesKeepRules
 pub mod Swap
+pub mod Halves
 pub mod Accepted
 pub mod Kept
 pub mod Elsewhere

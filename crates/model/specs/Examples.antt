@@ -27,6 +27,8 @@ pub data Outcome : Type 0 where
   reads : ℕ → Outcome
   -- Taken, and the youngest cell is Held, with this queue and byte.
   takenHeld : ℕ → ℕ → Outcome
+  -- An outcome of a slot of which a half or both are dropped, after the arrival's number and the request's.
+  drops : ℕ → ℕ → Outcome → Outcome
   refused : ℕ → Outcome
   -- Refused with 8, and the cell that was to leave is Owed to this queue.
   misses : ℕ → Outcome
@@ -89,28 +91,29 @@ isHeld q v (owed p) = false
 abbrev youngestOf : List Cell → Cell
 youngestOf cs = getD cs (length cs - 1) empty
 
--- A slot's answer has this number, none for either half, and this delivery, and these are the queues written and read.
-abbrev answers : ℕ → Option Byte → Option ℕ → Option ℕ → Answer → Bool
-answers number delivered written read a = allTrue (
+-- A slot's answer has this number, these of its halves and this delivery, and these are the queues written and read.
+abbrev answers : ℕ → ℕ → ℕ → Option Byte → Option ℕ → Option ℕ → Answer → Bool
+answers number arrivalNumber requestNumber delivered written read a = allTrue (
     eqb (a .reply .number) number ∷
-    eqb (a .reply .arrivalNumber) 0 ∷
-    eqb (a .reply .requestNumber) 0 ∷
+    eqb (a .reply .arrivalNumber) arrivalNumber ∷
+    eqb (a .reply .requestNumber) requestNumber ∷
     sameByte (a .reply .delivered) delivered ∷
     same (a .reply .written) written ∷
     same (a .reply .read) read ∷ [])
 
--- An answer is this outcome with this delivery. A refused slot hands its state back as given, so that the cell that was
--- to leave is there still.
-abbrev meets : Outcome → Option Byte → Answer → Bool
-meets taken y a = answers 0 y none none a
-meets (writes q) y a = answers 0 y (some q) none a
-meets (reads q) y a = answers 0 y none (some q) a
-meets (takenHeld q v) y a = answers 0 y none none a && isHeld q v (youngestOf (a .state .cells))
-meets (refused n) y a = answers n y none none a
-meets (misses q) y a = answers 8 y none none a && eqb (owes q (oldestCell (a .state .cells))) 1
-meets (outcome delivering x) y a = meets outcome (some x) a
-meets (outcome fills t and h marks m and n) y a = allTrue (
-    meets outcome y a ∷
+-- An answer is this outcome, with these numbers of its halves and this delivery. A refused slot hands its state back as
+-- given, so that the cell that was to leave is there still.
+abbrev meets : Outcome → ℕ → ℕ → Option Byte → Answer → Bool
+meets taken i j y a = answers 0 i j y none none a
+meets (writes q) i j y a = answers 0 i j y (some q) none a
+meets (reads q) i j y a = answers 0 i j y none (some q) a
+meets (takenHeld q v) i j y a = answers 0 i j y none none a && isHeld q v (youngestOf (a .state .cells))
+meets (drops m n outcome) i j y a = meets outcome m n y a
+meets (refused n) i j y a = answers n i j y none none a
+meets (misses q) i j y a = answers 8 i j y none none a && eqb (owes q (oldestCell (a .state .cells))) 1
+meets (outcome delivering x) i j y a = meets outcome i j (some x) a
+meets (outcome fills t and h marks m and n) i j y a = allTrue (
+    meets outcome i j y a ∷
     eqb (length (a .state .tail)) t ∷
     eqb (length (a .state .head)) h ∷
     eqb (a .state .tailMark) m ∷
@@ -120,11 +123,11 @@ meets (outcome fills t and h marks m and n) y a = allTrue (
 abbrev allMeet : Design → State → List ℕ → List Expected → Bool
 allMeet design x store [] = true
 allMeet design x store ((call ⇒ outcome) ∷ expected) =
-    let a = slot design x store call in meets outcome none a && allMeet design (a .state) (a .store) expected
+    let a = slot design x store call in meets outcome 0 0 none a && allMeet design (a .state) (a .store) expected
 allMeet design x store ((arbiter arrival then outcome asks q last n) ∷ expected) =
     let a = arbiterSlot design x store arrival in
     allTrue (
-    meets outcome none a ∷
+    meets outcome 0 0 none a ∷
     same (lists.taken (a .reply .number) (choice x arrival)) q ∷
     eqb (a .state .lastAsked) n ∷
     allMeet design (a .state) (a .store) expected ∷ [])
@@ -161,29 +164,30 @@ examples =
     -- C7: "52, grade 1: 11."
     noBlock 52 1 11 ∷
     -- C8: "Q 1, b 2, K 1: two arrivals are taken, the third answers 5. Once the block has been read, it is taken."
-    -- The second arrival completes the block. It is read on a request, and until it is read 5 stays.
+    -- The second arrival completes the block. It is read on a request, and until it is read 5 stays, also in the slot
+    -- that reads it. By request 2.5 the arrival alone is dropped.
     slots paper (fresh paper (sizes 1 2 1))
     (arrival 0 65 ⇒ taken ∷
     arrival 0 66 ⇒ writes 0 ∷
-    arrival 0 67 ⇒ refused 5 ∷
+    arrival 0 67 ⇒ drops 5 0 taken ∷
+    idle ⇒ taken ∷
     request 0 ⇒ taken ∷
-    arrival 0 67 ⇒ refused 5 ∷
-    idle ⇒ reads 0 ∷
+    arrival 0 67 ⇒ drops 5 0 (reads 0) ∷
     arrival 0 67 ⇒ taken delivering byte 0 65 ∷ []) ∷
     -- C9: "empty queue, arrival and request of it in one slot: taken, Held." With b 1 the byte would be a block, and it
     -- does not go to slow store.
     slots paper (fresh paper (sizes 1 1 1))
     (both 0 65 0 ⇒ takenHeld 0 65 ∷ []) ∷
-    -- "The request without the arrival: 7."
+    -- "The request without the arrival: 7." By request 2.5 the request alone is dropped.
     slots paper (fresh paper (sizes 1 1 1))
-    (request 0 ⇒ refused 7 ∷ []) ∷
-    -- The same where a byte is about to leave: a refused slot delivers nothing, and the next slot delivers it.
+    (request 0 ⇒ drops 0 7 taken ∷ []) ∷
+    -- The same where a byte is about to leave: it leaves in that slot.
     slots paper (fresh paper (sizes 1 1 1))
-    (both 0 65 0 ⇒ takenHeld 0 65 ∷ request 0 ⇒ refused 7 ∷ idle ⇒ taken delivering byte 0 65 ∷ []) ∷
+    (both 0 65 0 ⇒ takenHeld 0 65 ∷ request 0 ⇒ drops 0 7 taken delivering byte 0 65 ∷ idle ⇒ taken ∷ []) ∷
     -- Both of queue 1, with bytes of queue 0 in either cache.
     slots paper (made (sizes 2 2 1) phase 0 tail (byte 0 66 ∷ []) head (byte 0 65 ∷ [])
     cells (replicate 3 empty) blocks (0 ∷ 0 ∷ []))
-    (request 1 ⇒ refused 7 ∷
+    (request 1 ⇒ drops 0 7 taken ∷
     both 1 67 1 ⇒ takenHeld 1 67 ∷ []) ∷
     -- C10: "Q 2, b 2, a block of each queue stored, phase 0: request 1, then 0. The first read is of queue 1, the next
     -- of queue 0." The store holds zeros, and so do the bytes delivered.

@@ -52,7 +52,8 @@ pub record ArbiterSays (design : Design) : Type 0 where
       (x : State) (y : Byte) → isFull x (y .queue) ≡ false → canBeAsked x (some y) (y .queue) ≡ true
   -- A queue that is chosen can be asked: 7 never comes, and neither does 6.
   pub never-7 :
-      (x : State) (store : List ℕ) (arrival : Option Byte) → arbiterSlot design x store arrival .reply .number ≡ 7 → ⊥
+      (x : State) (store : List ℕ) (arrival : Option Byte)
+      → arbiterSlot design x store arrival .reply .requestNumber ≡ 0
   pub never-6 :
       (x : State) (store : List ℕ) (arrival : Option Byte) → arbiterSlot design x store arrival .reply .number ≡ 6 → ⊥
   -- "The last one asked": it moves where the arbiter asked and the slot is accepted. "A refused slot or a caller's own

@@ -7,7 +7,7 @@ use Rattle.model.specs.Sizes.{sizes, paper}
 use Rattle.model.specs.State.{byte, empty, owed, State, fresh}
 use Rattle.model.specs.Calls.{arrival, request, both, idle}
 use Rattle.model.specs.Examples.{Expected, _⇒_, arbiter_then_asks_last_, taken, writes, reads, takenHeld, refused}
-use Rattle.model.specs.Examples.{misses, _delivering_}
+use Rattle.model.specs.Examples.{drops, misses, _delivering_}
 use Rattle.model.specs.Examples.{Example, sizesTaken, sizesRefused, sizesAre, blockIs, noBlock, slots, chooses}
 use Rattle.model.specs.Examples.{_fills_and_marks_and_, made_phase_tail_head_cells_blocks_}
 
@@ -39,10 +39,21 @@ falseExamples =
     blockIs 4 16 85 ∷
     noBlock 52 1 12 ∷
     noBlock 51 1 0 ∷
-    -- Taken for refused, refused for taken, another number.
-    withB2 (arrival 0 65 ⇒ refused 5 ∷ []) ∷
+    -- A stop for taken, taken for a stop, another number, a half's number that is not named.
+    withB2 (arrival 0 65 ⇒ refused 4 ∷ []) ∷
+    withB2 (arrival 1 65 ⇒ taken ∷ []) ∷
+    withB2 (arrival 1 65 ⇒ refused 6 ∷ []) ∷
+    withB2 (request 1 ⇒ refused 4 ∷ []) ∷
     withB2 (request 0 ⇒ taken ∷ []) ∷
-    withB2 (request 0 ⇒ refused 6 ∷ []) ∷
+    -- A stop for a dropped half, a dropped half for a stop; another half's number, one that is not named, one that was
+    -- not.
+    withB2 (request 0 ⇒ refused 7 ∷ []) ∷
+    withB2 (arrival 1 65 ⇒ drops 5 0 taken ∷ []) ∷
+    withB2 (request 0 ⇒ drops 7 0 taken ∷ []) ∷
+    withB2 (request 0 ⇒ drops 0 5 taken ∷ []) ∷
+    withB2 (request 0 ⇒ drops 5 7 taken ∷ []) ∷
+    withB2 (arrival 0 65 ⇒ drops 5 0 taken ∷ []) ∷
+    withB2 (arrival 0 65 ⇒ drops 0 7 taken ∷ []) ∷
     -- A write that is not named, one of another queue, one that was not. The first is also in the second slot, which
     -- gets the state that the first one left.
     withB2 (arrival 0 65 ⇒ taken ∷ arrival 0 66 ⇒ taken ∷ []) ∷
@@ -58,7 +69,7 @@ falseExamples =
     withB1 (both 0 65 0 ⇒ taken ∷ idle ⇒ taken delivering byte 0 66 ∷ []) ∷
     withB1 (both 0 65 0 ⇒ taken delivering byte 0 65 ∷ []) ∷
     -- A refused slot that delivers; one that writes and one that reads have no row.
-    withB1 (both 0 65 0 ⇒ taken ∷ request 0 ⇒ refused 7 delivering byte 0 65 ∷ []) ∷
+    withB1 (both 0 65 0 ⇒ taken ∷ arrival 1 65 ⇒ refused 4 delivering byte 0 65 ∷ []) ∷
     -- Held of another queue, with another value; the youngest cell Owed, or empty.
     withB1 (both 0 65 0 ⇒ takenHeld 1 65 ∷ []) ∷
     withB1 (both 0 65 0 ⇒ takenHeld 0 66 ∷ []) ∷
@@ -68,7 +79,7 @@ falseExamples =
     slots paper uncovered (idle ⇒ misses 1 ∷ []) ∷
     withB2 (idle ⇒ misses 0 ∷ []) ∷
     -- Another outcome; another fill of the tail, of the head; another mark of the tail, of the head.
-    withB2 (arrival 0 65 ⇒ refused 5 fills 1 and 0 marks 1 and 0 ∷ []) ∷
+    withB2 (arrival 0 65 ⇒ refused 4 fills 1 and 0 marks 1 and 0 ∷ []) ∷
     withB2 (arrival 0 65 ⇒ taken fills 0 and 0 marks 1 and 0 ∷ []) ∷
     withB2 (arrival 0 65 ⇒ taken fills 1 and 1 marks 1 and 0 ∷ []) ∷
     withB2 (arrival 0 65 ⇒ taken fills 1 and 0 marks 2 and 0 ∷ []) ∷

@@ -5,7 +5,7 @@ use mathlib.Core.Option.{none}
 use Prim.Native.Nat.{ℕ, max}
 use Rattle.model.specs.Sizes.{Sizes, Design}
 use Rattle.model.specs.State.{State, fresh}
-use Rattle.model.specs.Slot.{Call, slot}
+use Rattle.model.specs.Slot.{Call, halvesTaken, slot}
 use Rattle.model.specs.Lists.{Step, run, lastState, listOf, accepted}
 use Rattle.model.specs.Chains.{Chain}
 
@@ -34,9 +34,9 @@ pub record MarksRise (x : State) (slots : List Step) (y : State) : Type 0 where
   pub head-mark : y .headMark ≡ max (x .headMark) (greatest (headLooks slots))
 
 -- Of every list of slots, refused ones included, whatever sizes, state and store; and of every chain, the round robin
--- arbiter's slots among a caller's. The last three say of one slot when a
--- mark stays: with no arrival the tail's, with no read the head's (a state that keeps the rules has marks that are at
--- least the fills, and any other is refused), and both where the slot is refused.
+-- arbiter's slots among a caller's. The last three say of one slot when a mark stays: with no arrival taken the tail's,
+-- with no read the head's (a state that keeps the rules has marks that are at least the fills, and any other is
+-- refused), and both where the slot is refused.
 pub record MarksExact (design : Design) : Type 0 where
   pub since-fresh :
       (s : Sizes) (store : List ℕ) (calls : List Call)
@@ -49,7 +49,7 @@ pub record MarksExact (design : Design) : Type 0 where
       (x : State) (store : List ℕ) (calls : List Call)
       → MarksRise x (accepted (run design x store calls)) (lastState design x store calls)
   pub no-arrival :
-      (x : State) (store : List ℕ) (call : Call) → call .arrival ≡ none
+      (x : State) (store : List ℕ) (call : Call) → halvesTaken x call .arrival ≡ none
       → slot design x store call .state .tailMark ≡ x .tailMark
   pub no-read :
       (x : State) (store : List ℕ) (call : Call) → slot design x store call .reply .read ≡ none

@@ -40,7 +40,7 @@ pub record AllQuiet (x : State) : Type 0 where
   pub all-empty : (i : ℕ) → i < length (x .cells) → getD (x .cells) i empty ≡ empty
   pub none-to-write : fullest (x .sizes .b) (tailBytes x) (x .sizes .Q) ≡ none
 
--- A slot of a list that was accepted, delivered nothing and moved nothing.
+-- A slot of a list that was accepted, dropped nothing, delivered nothing and moved nothing.
 abbrev pub QuietStep : Step → Type 0
 QuietStep step = step .reply ≡ numberAlone 0
 

@@ -8,11 +8,12 @@ use lib.ListN.{length, take, getElem?}
 use Rattle.model.specs.Basics.{choose, tabulate}
 use Rattle.model.specs.Sizes.{Sizes, Design}
 use Rattle.model.specs.State.{Byte, State, fresh, valuesOf}
-use Rattle.model.specs.Slot.{Call, asByte, arriving, swaps, joined, asked, refilled, Reply, Answer, slot}
+use Rattle.model.specs.Slot.{Call, asByte, arriving, swaps, joined, asked, refilled, halvesTaken}
+use Rattle.model.specs.Slot.{Reply, Answer, slot}
 
--- One slot of a list: what it told (0 or a refusal's number, its delivery and its moves), what it took of its arrival
--- and its request, state and store as it ends, the tail's fill "just after the arrival joins it" and the head's "just
--- after the read".
+-- One slot of a list: what it told (0 or the number that stopped it, those of its halves, its delivery and its moves),
+-- what it took of its arrival and its request, state and store as it ends, the tail's fill "just after the arrival
+-- joins it" and the head's "just after the read".
 pub record Step : Type 0 where
   pub reply : Reply
   pub arrival : Option Byte
@@ -22,7 +23,8 @@ pub record Step : Type 0 where
   pub joinedFill : ℕ
   pub readFill : ℕ
 
--- "An arrival or request is accepted when its slot is." A refused slot took nothing, and moved nothing to look at.
+-- "An arrival or request is accepted when its slot is", unless it is dropped (2.5). A slot that was refused took
+-- nothing, and moved nothing to look at.
 abbrev pub taken : {A : Type 0} → ℕ → Option A → Option A
 taken zero o = o
 taken (suc n) o = none
@@ -41,12 +43,12 @@ readFillOf (suc n) x store call = length (x .head)
 abbrev pub stepOf : State → List ℕ → Call → Answer → Step
 stepOf x store call a = record {
   reply = a .reply;
-  arrival = taken (a .reply .number) (call .arrival);
-  request = taken (a .reply .number) (call .request);
+  arrival = taken (a .reply .number) (halvesTaken x call .arrival);
+  request = taken (a .reply .number) (halvesTaken x call .request);
   state = a .state;
   store = a .store;
-  joinedFill = joinedFillOf (a .reply .number) x call;
-  readFill = readFillOf (a .reply .number) x store call;
+  joinedFill = joinedFillOf (a .reply .number) x (halvesTaken x call);
+  readFill = readFillOf (a .reply .number) x store (halvesTaken x call);
 }
 
 -- Demand 3: "each slot getting state and store exactly as the one before left them"; "a refused slot stays in the

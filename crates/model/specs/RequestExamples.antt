@@ -6,9 +6,9 @@ use lib.ListN.{replicate}
 use Rattle.model.specs.Sizes.{sizes, paper}
 use Rattle.model.specs.State.{byte, empty, owed, State, fresh, withTailMark, withHeadMark, withLastAsked}
 use Rattle.model.specs.Calls.{arrival, request, both, idle}
-use Rattle.model.specs.Examples.{_⇒_, arbiter_then_asks_last_, taken, writes, reads, takenHeld, refused, misses}
-use Rattle.model.specs.Examples.{_delivering_, _fills_and_marks_and_, Example, blockIs, noBlock, slots, chooses}
-use Rattle.model.specs.Examples.{made_phase_tail_head_cells_blocks_}
+use Rattle.model.specs.Examples.{_⇒_, arbiter_then_asks_last_, taken, writes, reads, takenHeld, drops}
+use Rattle.model.specs.Examples.{refused, misses, _delivering_, _fills_and_marks_and_, Example, blockIs, noBlock}
+use Rattle.model.specs.Examples.{slots, chooses, made_phase_tail_head_cells_blocks_}
 
 -- Q 1, b 2, K 2: one tail byte, and so a tail mark of 1.
 abbrev oneTailByte : State
@@ -34,6 +34,12 @@ oneByteEach =
     made (sizes 3 2 1) phase 0 tail (byte 0 65 ∷ byte 1 66 ∷ byte 2 67 ∷ []) head [] cells (replicate 4 empty)
     blocks (0 ∷ 0 ∷ 0 ∷ [])
 
+-- Q 2, b 2, K 1, in the phase of the moves: queue 0 is full with its block, the head has one byte of it more, and all
+-- of them are owed, so that a cell leaves with its byte and the next waits for the block.
+abbrev allOwed : State
+allOwed =
+    made (sizes 2 2 1) phase 1 tail [] head (byte 0 65 ∷ []) cells (replicate 3 (owed 0)) blocks (1 ∷ 0 ∷ [])
+
 abbrev pub requestExamples : List Example
 requestExamples =
     -- 2.1, "where the arrival's queue is full, the request is for that queue, the request would be Held, and the tail
@@ -41,15 +47,13 @@ requestExamples =
     slots paper (fresh paper (sizes 1 2 1))
     (idle ⇒ taken ∷ arrival 0 65 ⇒ taken ∷ arrival 0 66 ⇒ taken ∷ both 0 67 0 ⇒ writes 0 ∷
     idle ⇒ taken ∷ idle ⇒ taken delivering byte 0 65 ∷ idle ⇒ taken ∷ idle ⇒ taken ∷ []) ∷
-    -- Where it would be Owed, 5 comes as before: the block is in store.
+    -- Where it would be Owed, 5 comes as before: the block is in store. By request 2.5 the request goes on.
     slots paper (fresh paper (sizes 1 2 1))
-    (arrival 0 65 ⇒ taken ∷ arrival 0 66 ⇒ writes 0 ∷ both 0 67 0 ⇒ refused 5 ∷
-    idle ⇒ taken ∷ idle ⇒ taken ∷ idle ⇒ taken ∷ idle ⇒ taken ∷ []) ∷
-    -- Where every byte in store is owed and the tail has none, too; and where another queue is asked.
-    slots paper (made (sizes 1 2 1) phase 0 tail [] head [] cells (replicate 2 (owed 0)) blocks (1 ∷ []))
-    (both 0 67 0 ⇒ refused 5 ∷ []) ∷
+    (arrival 0 65 ⇒ taken ∷ arrival 0 66 ⇒ writes 0 ∷ both 0 67 0 ⇒ drops 5 0 taken ∷
+    idle ⇒ reads 0 ∷ idle ⇒ taken delivering byte 0 65 ∷ idle ⇒ taken ∷ []) ∷
+    -- Where another queue is asked, too.
     slots paper tailOfFullQueues
-    (both 0 69 1 ⇒ refused 5 ∷ []) ∷
+    (both 0 69 1 ⇒ drops 5 0 (takenHeld 1 66) fills 3 and 0 marks 4 and 0 ∷ []) ∷
     -- "9 looks at the tail after the request": a full tail takes the byte, here and where the queue is then written.
     slots paper tailOfFullQueues
     (both 1 69 1 ⇒ takenHeld 1 66 fills 4 and 0 marks 4 and 0 ∷ []) ∷
@@ -93,12 +97,15 @@ requestExamples =
     ((arbiter some (byte 3 68) then refused 4 asks none last 0) ∷
     request 2 ⇒ takenHeld 2 67 ∷
     (arbiter none then takenHeld 1 66 asks some 1 last 1) ∷ []) ∷
-    -- "An arrival to a full queue does not count in the choice": all bytes of the queue are owed, and 5 comes. A full
-    -- queue is asked for its older bytes; the slot is then one of 2.1.
-    slots paper (made (sizes 1 2 1) phase 0 tail [] head [] cells (replicate 2 (owed 0)) blocks (1 ∷ []))
-    ((arbiter some (byte 0 67) then refused 5 asks none last 0) ∷ []) ∷
-    chooses (made (sizes 1 2 1) phase 0 tail [] head [] cells (replicate 2 (owed 0)) blocks (1 ∷ [])) (some (byte 0 67))
-    none ∷
+    -- "An arrival to a full queue does not count in the choice": all bytes of the queue are owed, and 5 comes, also
+    -- where another queue is asked. A full queue is asked for its older bytes; the slot is then one of 2.1.
+    slots paper allOwed
+    ((arbiter some (byte 0 67) then drops 5 0 (reads 0) delivering byte 0 65 asks none last 1) ∷ []) ∷
+    chooses allOwed (some (byte 0 67)) none ∷
+    slots paper oneByteEach
+    ((arbiter some (byte 0 68) then takenHeld 0 65 asks some 0 last 0) ∷
+    (arbiter some (byte 0 69) then writes 0 asks some 1 last 1) ∷
+    (arbiter some (byte 0 70) then drops 5 0 (takenHeld 2 67) asks some 2 last 2) ∷ []) ∷
     slots paper (made (sizes 1 2 1) phase 0 tail (byte 0 65 ∷ byte 0 66 ∷ []) head [] cells (replicate 2 empty)
     blocks (0 ∷ []))
     ((arbiter some (byte 0 67) then takenHeld 0 65 asks some 0 last 0) ∷ []) ∷
@@ -121,6 +128,35 @@ requestExamples =
     blockIs 4 14 75 ∷
     blockIs 4 15 80 ∷
     noBlock 4 16 11 ∷
+    -- 2.5, "5 and 7 refuse their half of the slot only. The slot runs without that half, and each half has its own
+    -- answer": 5 alone, with a delivery and a read in the same slot; 7 alone, with an arrival that is taken.
+    slots paper allOwed
+    (arrival 0 67 ⇒ drops 5 0 (reads 0) delivering byte 0 65 fills 0 and 2 marks 0 and 2 ∷ []) ∷
+    slots paper (fresh paper (sizes 2 2 1))
+    (both 0 65 1 ⇒ drops 0 7 taken fills 1 and 0 marks 1 and 0 ∷ []) ∷
+    -- "So both numbers may come together. A dropped half is absent for every later test, so 7 is judged without a
+    -- dropped arrival": the queue is full, all its bytes are owed, and the arriving byte is none to take.
+    slots paper allOwed
+    (both 0 67 0 ⇒ drops 5 7 (reads 0) delivering byte 0 65 ∷ []) ∷
+    -- 9 is not judged once the arrival is dropped: queue 0 is full, and so is the tail. With room in the queue 9 comes.
+    slots paper tailOfFullQueues
+    (arrival 0 69 ⇒ drops 5 0 taken fills 4 and 0 marks 4 and 0 ∷ []) ∷
+    slots paper (made (sizes 2 2 2) phase 0 tail (byte 0 65 ∷ byte 1 66 ∷ byte 0 67 ∷ byte 1 68 ∷ []) head []
+    cells (replicate 3 empty) blocks (0 ∷ 0 ∷ []))
+    (arrival 0 69 ⇒ refused 9 ∷ []) ∷
+    -- "Every other refusal still stops the slot and is then its only answer": 4 and 6 look at the call as it came, so
+    -- that a 5 hides behind a 6; and behind an 8 and a 10 both hide.
+    slots paper (made (sizes 1 1 1) phase 0 tail [] head [] cells (empty ∷ []) blocks (1 ∷ []))
+    (both 1 65 1 ⇒ refused 4 ∷ both 0 65 1 ⇒ refused 6 ∷ []) ∷
+    slots paper (made (sizes 2 2 1) phase 0 tail [] head [] cells (owed 0 ∷ replicate 2 empty) blocks (1 ∷ 0 ∷ []))
+    (both 0 65 1 ⇒ misses 0 ∷ []) ∷
+    slots paper (made (sizes 2 2 1) phase 1 tail [] head (replicate 4 (byte 1 65)) cells (empty ∷ empty ∷ owed 0 ∷ [])
+    blocks (1 ∷ 0 ∷ []))
+    (both 0 65 1 ⇒ refused 10 ∷ []) ∷
+    -- A request that is dropped leaves an empty cell, so that nothing is read for it; one that was taken is read for in
+    -- a slot of which both halves drop.
+    slots paper (made (sizes 2 2 1) phase 1 tail [] head [] cells (replicate 3 empty) blocks (1 ∷ 0 ∷ []))
+    (both 0 67 1 ⇒ drops 5 7 taken ∷ request 0 ⇒ taken ∷ both 0 67 1 ⇒ drops 5 7 (reads 0) ∷ []) ∷
     -- 2.8, "the tail is looked at just after the arrival joins it": before the request takes the byte, and before it is
     -- written with its block. What was reached stays.
     slots paper (fresh paper (sizes 1 2 2))

@@ -255,24 +255,39 @@ abbrev pub headFull : State → Option ℕ → Bool
 headFull x none = false
 headFull x (some q) = ltb (headSize (x .sizes)) (length (x .head) + x .sizes .b)
 
--- "3 is judged before 2, since the sizes must be good first; then the rest by number."
+-- Request 2.5: "5 and 7 refuse their half of the slot only. The slot runs without that half." "A dropped half is absent
+-- for every later test, so 7 is judged without a dropped arrival." What is left of a call:
+abbrev pub arrivalTaken : State → Call → Option Byte
+arrivalTaken x call = choose (arrivalFull x (call .arrival) (call .request)) none (call .arrival)
+
+abbrev pub requestDrops : State → Call → Bool
+requestDrops x call = nothingToTake x (arrivalTaken x call) (call .request)
+
+abbrev pub halvesTaken : State → Call → Call
+halvesTaken x call = record {
+  arrival = arrivalTaken x call;
+  request = choose (requestDrops x call) none (call .request);
+}
+
+-- "Every other refusal still stops the slot and is then its only answer." "3 is judged before 2, since the sizes must
+-- be good first; then the rest by number." 4 and 6 look at the call as it came, 9 and 10 at what is left of it.
 abbrev pub refusals : Design → State → List ℕ → Call → List ℕ
 refusals design x store call =
+    let halves = halvesTaken x call in
     when (not (keeps design x)) 3 ∷
     when (ltb (length store) (storeBytes (x .sizes))) 2 ∷
     when (arrivalUnknown x (call .arrival)) 4 ∷
-    when (arrivalFull x (call .arrival) (call .request)) 5 ∷
     when (requestUnknown x (call .request)) 6 ∷
-    when (nothingToTake x (call .arrival) (call .request)) 7 ∷
     when (leavesUncovered (oldestCell (x .cells)) x) 8 ∷
-    when (tailFull x (call .arrival) (call .request)) 9 ∷
-    when (headFull (wrote x call) (queueToRead (wrote x call))) 10 ∷ []
+    when (tailFull x (halves .arrival) (halves .request)) 9 ∷
+    when (headFull (wrote x halves) (queueToRead (wrote x halves))) 10 ∷ []
 
 abbrev pub refusal : Design → State → List ℕ → Call → ℕ
 refusal design x store call = firstRefusal (refusals design x store call)
 
 -- What a slot tells: "An accepted slot answers 0 with the delivery, the queue written and the queue read, or none for
--- each." `arrivalNumber` and `requestNumber` are numbers of the two halves, for request 2.5; no half has one yet.
+-- each." And "each half has its own answer, so both numbers may come together": 5 or 0 for the arrival, 7 or 0 for the
+-- request.
 pub record Reply : Type 0 where
   pub number : ℕ
   pub arrivalNumber : ℕ
@@ -298,12 +313,13 @@ pub record Answer : Type 0 where
   pub state : State
   pub store : List ℕ
 
-abbrev pub accept : State → List ℕ → Call → Answer
-accept x store call = record {
+-- The five steps of a slot of which these halves are taken, with the numbers of those that are not.
+abbrev pub carriedOut : ℕ → ℕ → State → List ℕ → Call → Answer
+carriedOut arrivalNumber requestNumber x store call = record {
   reply = record {
     number = 0;
-    arrivalNumber = 0;
-    requestNumber = 0;
+    arrivalNumber = arrivalNumber;
+    requestNumber = requestNumber;
     delivered = delivery x;
     written = queueToWrite (asked x call);
     read = queueToRead (wrote x call);
@@ -311,6 +327,11 @@ accept x store call = record {
   state = afterPhase (refilled x store call);
   store = wroteStore x store call;
 }
+
+abbrev pub accept : State → List ℕ → Call → Answer
+accept x store call =
+    carriedOut (when (arrivalFull x (call .arrival) (call .request)) 5) (when (requestDrops x call) 7) x store
+    (halvesTaken x call)
 
 -- "A refused slot did not happen: no cell moves, no phase passes." State and store are as given.
 abbrev pub refuse : ℕ → State → List ℕ → Answer

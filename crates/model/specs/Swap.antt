@@ -9,7 +9,7 @@ use Rattle.model.specs.Sizes.{Design, storeBytes}
 use Rattle.model.specs.State.{Byte, held, State, keeps}
 use Rattle.model.specs.Slot.{Call, arriving, without, oldestOf, oldestCell, afterDelivery, afterArrival}
 use Rattle.model.specs.Slot.{afterRequest, isFull, swaps, asked, wrote, queueToRead, arrivalFull, tailFound}
-use Rattle.model.specs.Slot.{leavesUncovered, headFull, refusal}
+use Rattle.model.specs.Slot.{leavesUncovered, headFull, halvesTaken, refusal}
 use Rattle.model.specs.Lists.{joinedFillOf}
 
 -- "Take the request before the arrival": its cell is Held with the oldest of the tail's bytes of the queue, never with
@@ -24,14 +24,14 @@ pub record Swapped (x : State) (call : Call) (y : Byte) : Type 0 where
   pub mark-is : asked x call .tailMark ≡ x .tailMark
 
 pub record SwapSays (design : Design) : Type 0 where
-  -- "Such a slot is accepted if nothing else refuses it": 3, 2, 8 and 10 are left.
+  -- "Such a slot is accepted if nothing else refuses it": 3, 2, 8 and 10 are left. Both its halves are taken (2.5).
   pub is-accepted :
       (x : State) (store : List ℕ) (call : Call) → swaps x (call .arrival) (call .request) ≡ true
       → keeps design x ≡ true
       → storeBytes (x .sizes) ≤ length store
       → leavesUncovered (oldestCell (x .cells)) x ≡ false
       → headFull (wrote x call) (queueToRead (wrote x call)) ≡ false
-      → refusal design x store call ≡ 0
+      → (refusal design x store call ≡ 0) × (halvesTaken x call ≡ call)
   -- "Take the request before the arrival": steps 2 and 3 the other way round, and what comes of it.
   pub request-first :
       (x : State) (call : Call) → swaps x (call .arrival) (call .request) ≡ true

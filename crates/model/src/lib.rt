@@ -7,6 +7,7 @@ ghost use Rattle.model.specs.Basics.{allOf, someOf};
 ghost use Rattle.model.specs.Sizes.{Limits, Design};
 ghost use Rattle.model.specs.Demand.{Demand-3};
 ghost use Rattle.model.specs.Swap.{SwapSays};
+ghost use Rattle.model.specs.Halves.{HalvesSay, StopsLow};
 ghost use Rattle.model.specs.Fairness.{ArbiterSays, Fair};
 ghost use Rattle.model.specs.HighMarks.{MarksExact};
 ghost use Rattle.model.specs.Examples.{examples, holds};
@@ -27,6 +28,11 @@ pub fn swap_in_a_full_queue()
 // Request 2.2: what a slot does in which the arbiter chooses, in any design; how long a queue waits, under any limits.
 pub fn round_robin_arbiter()
     ensures { λ _. ⌜ ((design : Design) → ArbiterSays design) × ((limits : Limits) → Fair limits) ⌝ }
+{}
+
+// Request 2.5: a dropped half never came, in any design; over lists no slot is refused but with 6 or lower.
+pub fn line_does_not_wait()
+    ensures { λ _. ⌜ ((design : Design) → HalvesSay design) × ((limits : Limits) → StopsLow limits) ⌝ }
 {}
 
 // Request 2.8, in any design: each high mark is exactly the greatest fill since the fresh state.

@@ -1,7 +1,7 @@
 -- The head's list fills it: every queue in turn comes to a margin of b - 1 with a block in the store; then b requests
 -- of every queue in turn make all L cells Owed and leave the margins at b - 1. The head's bytes are the Owed cells and
 -- the margins, L + Q(b - 1) = 2Q(b - 1) + 1.
-use mathlib.Core.Path.{_≡_, refl, ap, subst}
+use mathlib.Core.Path.{_≡_, refl, ap, sym, subst}
 use mathlib.Core.Bool.{true}
 use mathlib.Core.List.{List, _∷_, _++_, append-assoc}
 use Prim.Native.Nat.{ℕ, zero, suc, _+_, _-_, _*_, _<_, _≤_}
@@ -23,7 +23,7 @@ use Rattle.model.proofs.basics.Cells.{sum-owed}
 use Rattle.model.proofs.basics.Rings.{times-pred}
 use Rattle.model.proofs.basics.Limits.{within-limits}
 use Rattle.model_least.specs.Least.{prepareFrom, askFrom, headFills, HeadFills}
-use Rattle.model_least.proofs.Slots.{no-refusal}
+use Rattle.model_least.proofs.Slots.{stateAfter, storeAfter, whole, no-refusal}
 use Rattle.model_least.proofs.Figures.{Figures, figures}
 use Rattle.model_least.proofs.Moves.{Calm}
 use Rattle.model_least.proofs.Calls.{queues-are}
@@ -41,7 +41,9 @@ fills-later : (limits : Limits) (s : Sizes) → Onward limits s (Fills limits s)
 fills-later limits s x store call ready allowed calls e =
     by-test (eqb (length (x .head)) (headSize s))
     (λ t. rw t)
-    (λ t. rw (t, no-refusal limits s x store ready call allowed) e)
+    (λ t. rw (t, no-refusal limits s x store ready call allowed)
+    (subst (λ (c : Call). Fills limits s (stateAfter x store c) (storeAfter x store c) calls)
+    (sym (whole limits s x store ready call allowed)) e))
 
 -- A queue with a margin of b - 1 and a block in the store, and with that block read too.
 abbrev prepared : Sizes → Figures

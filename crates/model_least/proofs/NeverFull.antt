@@ -11,7 +11,7 @@ use borrow.Author.Tests.{ne-eqb}
 use Rattle.model.specs.Basics.{choose, someOf}
 use Rattle.model.specs.Sizes.{Sizes, Limits, accepts, tailSize, full}
 use Rattle.model.specs.State.{State, fresh, tailBytes}
-use Rattle.model.specs.Slot.{Call, swaps, joined, asked, Answer, slot}
+use Rattle.model.specs.Slot.{Call, swaps, joined, asked, Answer, halvesTaken, slot}
 use Rattle.model.specs.Lists.{joinedFillOf, run, listOf}
 use Rattle.model.proofs.basics.Tests.{by-test}
 use Rattle.model.proofs.basics.Sums.{sum-bound}
@@ -36,16 +36,19 @@ module _ (limits : Limits) (x : State) (store : List ℕ) (call : Call) (kept : 
   abbrev most : ℕ
   most = x .sizes .Q * (x .sizes .K * x .sizes .b)
 
-  joined-bounded : joinedFillOf (slot (full limits) x store call .reply .number) x call ≤ most
+  abbrev left : Call
+  left = halvesTaken x call
+
+  joined-bounded : joinedFillOf (slot (full limits) x store call .reply .number) x left ≤ most
   joined-bounded = go (slot (full limits) x store call) (outcome (full limits) x store call)
     where
-      go : (a : Answer) → RefusedOrAccepted (full limits) x store call a → joinedFillOf (a .reply .number) x call ≤ most
+      go : (a : Answer) → RefusedOrAccepted (full limits) x store call a → joinedFillOf (a .reply .number) x left ≤ most
       go a (was-refused n e) = tail-bounded _ x (kept .within)
       go a (was-accepted f) =
-          by-test (swaps x (call .arrival) (call .request))
-          (λ t. omega (arith, swap-looked-at x call t (f .judged .covered), tail-bounded _ x (kept .within)))
-          (λ t. subst (λ (b : Bool). length (choose b (asked x call .tail) (joined x call .tail)) ≤ most) (sym t)
-          (tail-bounded _ _ (rules-2 (full limits) x store call (omega arith) (f .judged))))
+          by-test (swaps x (left .arrival) (left .request))
+          (λ t. omega (arith, swap-looked-at x left t (f .judged .covered), tail-bounded _ x (kept .within)))
+          (λ t. subst (λ (b : Bool). length (choose b (asked x left .tail) (joined x left .tail)) ≤ most) (sym t)
+          (tail-bounded _ _ (rules-2 (full limits) x store left (omega arith) (f .judged))))
 
 neither : (t u : Bool) → t ≡ false → u ≡ false → choose t true u ≡ false
 neither t u e f = rw (e, f)
@@ -66,7 +69,7 @@ module _ (limits : Limits) (s : Sizes) (one : s .K ≡ 1) (few : s .Q < s .b) wh
   never x store [] kept same = refl
   never x store (call ∷ calls) kept same =
       neither _ _
-      (ne-eqb (joinedFillOf (slot (full limits) x store call .reply .number) x call) (tailSize s)
+      (ne-eqb (joinedFillOf (slot (full limits) x store call .reply .number) x (halvesTaken x call)) (tailSize s)
       (λ e. omega (
         arith,
         e,

@@ -1,24 +1,21 @@
 -- A slot answers a call and the nearest call of 8-bit queues alike: they differ only in queues of 255 and more, which
--- no state that keeps the rules has (Q is at most 64), and each of these is refused, with 4 or with 6, before anything
--- looks at which queue it is, but whether the slot swaps: it does not, with an arrival of a queue that there is and a
--- request of one that there is not. `near-slot` says it, and `near-arbiter` of the round robin arbiter.
+-- no state that keeps the rules has (Q is at most 64), and each of these stops the slot, with 4 or with 6, before
+-- anything looks at which queue it is. `near-slot` says it, and `near-arbiter` of the round robin arbiter.
 use mathlib.Core.Path.{_≡_, refl, ap, sym, _∙_}
-use mathlib.Core.Bool.{Bool, true, false, _&&_, not}
+use mathlib.Core.Bool.{true, false}
 use mathlib.Core.List.{List}
 use mathlib.Core.Option.{Option, some, none}
 use Prim.Native.Nat.{ℕ, suc, _≤_}
 use native.Mathlib.Omega.{arith}
 use lib.Dec.{ltb}
 use lib.ListN.{length}
-use borrow.Author.Tests.{ne-eqb, leb-true, leb-false, le-leb}
+use borrow.Author.Tests.{leb-true, leb-false, le-leb}
 use Rattle.model.specs.Sizes.{paper, paperLimits, storeBytes}
 use Rattle.model.specs.State.{Byte, State, keeps}
-use Rattle.model.specs.Slot.{Call, isFull, swapTests, swaps, arrivalUnknown, arrivalFull, requestUnknown, refusal}
-use Rattle.model.specs.Slot.{Answer, refuse, slot}
+use Rattle.model.specs.Slot.{Call, arrivalUnknown, requestUnknown, refusal, Answer, refuse, slot}
 use Rattle.model.specs.Lists.{taken}
 use Rattle.model.specs.Arbiter.{choice, arbiterCall, lastAfter, noting, arbiterSlot}
 use Rattle.model.proofs.basics.Tests.{by-test}
-use Rattle.model.proofs.basics.AllOf.{all-true-not}
 use Rattle.model.proofs.basics.Limits.{within-limits}
 use Rattle.model.proofs.one_slot.Rules.{keeps-facts}
 use Rattle.run_words.specs.Words.{nearest, nearByte, nearQueue, nearCall}
@@ -47,30 +44,7 @@ module _ (x : State) (few : x .sizes .Q ≤ 255) where
   request-above (some q) e =
       le-leb (x .sizes .Q) (nearest q) (omega (arith, leb-true (x .sizes .Q) q e))
 
--- A slot with an arrival of a queue that there is and a request of one that there is not does not swap, so that 5 is
--- judged alike whatever that request is.
-swaps-not : (x : State) (arrival : Option Byte) (request : Option ℕ)
-    → arrivalUnknown x arrival ≡ false → requestUnknown x request ≡ true → swaps x arrival request ≡ false
-swaps-not x none request e f = refl
-swaps-not x (some y) none e f = refl
-swaps-not x (some y) (some q) e f =
-    all-true-not (swapTests x y q) 1
-    (ne-eqb q (y .queue) (λ same. omega (
-      arith,
-      same,
-      leb-false (x .sizes .Q) (y .queue) e,
-      leb-true (x .sizes .Q) q f,
-    )))
-
-full-alike : (x : State) (arrival : Option Byte) (request other : Option ℕ) → arrivalUnknown x arrival ≡ false
-    → requestUnknown x request ≡ true → requestUnknown x other ≡ true
-    → arrivalFull x arrival request ≡ arrivalFull x arrival other
-full-alike x none request other e f g = refl
-full-alike x (some y) request other e f g =
-    ap (λ (t : Bool). isFull x (y .queue) && not t)
-    (swaps-not x (some y) request e f ∙ sym (swaps-not x (some y) other e g))
-
--- Each refusal up to 6, in the order of judging.
+-- Each stop up to 6, in the order of judging.
 module _ (x : State) (store : List ℕ) (call : Call) where
   three : keeps paper x ≡ false → slot paper x store call ≡ refuse 3 x store
   three kept = rw (kept, refusal)
@@ -83,13 +57,9 @@ module _ (x : State) (store : List ℕ) (call : Call) where
       four : arrivalUnknown x (call .arrival) ≡ true → slot paper x store call ≡ refuse 4 x store
       four unknown = rw (kept, long, unknown, refusal)
 
-      module _ (known : arrivalUnknown x (call .arrival) ≡ false) where
-        five : arrivalFull x (call .arrival) (call .request) ≡ true → slot paper x store call ≡ refuse 5 x store
-        five full = rw (kept, long, known, full, refusal)
-
-        six : arrivalFull x (call .arrival) (call .request) ≡ false → requestUnknown x (call .request) ≡ true
-            → slot paper x store call ≡ refuse 6 x store
-        six room unknown = rw (kept, long, known, room, unknown, refusal)
+      six : arrivalUnknown x (call .arrival) ≡ false → requestUnknown x (call .request) ≡ true
+          → slot paper x store call ≡ refuse 6 x store
+      six known unknown = rw (kept, long, known, unknown, refusal)
 
 -- A state that keeps the rules, with a store that is long enough: the arrival first, and with it as it is the request.
 module _ (x : State) (store : List ℕ) (call : Call) (kept : keeps paper x ≡ true)
@@ -106,12 +76,8 @@ module _ (x : State) (store : List ℕ) (call : Call) (kept : keeps paper x ≡ 
 
   by-request : arrivalUnknown x (call .arrival) ≡ false → slot paper x store near-request ≡ slot paper x store call
   by-request known = by-test (requestUnknown x (call .request))
-      (λ unknown. let above = request-above x few (call .request) unknown in
-      let alike = full-alike x (call .arrival) (nearQueue (call .request)) (call .request) known above unknown in
-      by-test (arrivalFull x (call .arrival) (call .request))
-      (λ full. five x store near-request kept long known (alike ∙ full) ∙ sym (five x store call kept long known full))
-      (λ room. six x store near-request kept long known (alike ∙ room) above
-      ∙ sym (six x store call kept long known room unknown)))
+      (λ unknown. six x store near-request kept long known (request-above x few (call .request) unknown)
+      ∙ sym (six x store call kept long known unknown))
       (λ fine. ap (λ (r : Option ℕ). slot paper x store (with (call .arrival) r))
       (request-known x few (call .request) fine))
 

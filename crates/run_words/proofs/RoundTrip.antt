@@ -1,35 +1,59 @@
--- An answer that was made a number is read back from it whole, where its number and its value fit 8 bits and its queues
--- fit 10: no part reaches into the bits of another.
-use mathlib.Core.Path.{_≡_, _∙_}
-use Prim.Native.Nat.{ℕ, _+_, _*_, _/_, _%_, _<_}
+-- An answer that was made a number is read back from it whole, where its number and its value fit 8 bits, its queues
+-- fit 10 and its halves' numbers are 5 and 7 or 0: no part reaches into the bits of another.
+use mathlib.Core.Path.{_≡_, ap, sym, _∙_}
+use Prim.Native.Nat.{ℕ, zero, suc, _+_, _*_, _/_, _%_, _<_}
 use native.Mathlib.Omega.{arith}
 use Rattle.model.specs.Slot.{Reply}
 use Rattle.run_words.specs.Words.{answerQueues, byteWord, queueWord, byteIn, queueIn}
-use Rattle.run_words.specs.Words.{answerWord, numberOf, deliveredOf, writtenOf, readOf}
+use Rattle.run_words.specs.Words.{droppedBit, answerWord, numberOf, arrivalNumberOf, requestNumberOf}
+use Rattle.run_words.specs.Words.{deliveredOf, writtenOf, readOf}
 use Rattle.run_words.proofs.Bits.{ByteFits, QueueFits, byte-same, queue-same}
 use Rattle.run_words.proofs.Bits.{byte-word-back, queue-word-back, byte-word-low, queue-word-low}
 
--- The parts of a number that is put together of four.
-module _ (n r w d : ℕ) (delivered-low : d < 524288) where
-  abbrev four : ℕ
-  four = n * 72057594037927936 + r * 1073741824 + w * 524288 + d
+-- The parts of a number that is put together of six.
+module _ (n q a r w d : ℕ) (delivered-low : d < 524288) (written-low : w < 2048) (read-low : r < 2048)
+    (arrival-low : a < 2) (request-low : q < 2) where
+  abbrev six : ℕ
+  six =
+      n * 72057594037927936 + q * 36028797018963968 + a * 18014398509481984 + r * 1073741824 + w * 524288 + d
 
-  delivered-part : byteIn answerQueues four ≡ byteIn answerQueues d
-  delivered-part = byte-same answerQueues d four (omega arith) (omega arith) (omega arith)
+  delivered-part : byteIn answerQueues six ≡ byteIn answerQueues d
+  delivered-part = byte-same answerQueues d six (omega arith) (omega arith) (omega arith)
 
-  written-part : w < 2048 → queueIn answerQueues (four / 524288) ≡ queueIn answerQueues w
-  written-part wl = queue-same answerQueues w (four / 524288) (omega arith) (omega arith)
+  written-part : queueIn answerQueues (six / 524288) ≡ queueIn answerQueues w
+  written-part = queue-same answerQueues w (six / 524288) (omega arith) (omega arith)
 
-  read-part : w < 2048 → r < 2048 → queueIn answerQueues (four / 1073741824) ≡ queueIn answerQueues r
-  read-part wl rl = queue-same answerQueues r (four / 1073741824) (omega arith) (omega arith)
+  read-part : queueIn answerQueues (six / 1073741824) ≡ queueIn answerQueues r
+  read-part = queue-same answerQueues r (six / 1073741824) (omega arith) (omega arith)
 
-  number-part : w < 2048 → r < 2048 → n < 256 → four / 72057594037927936 % 256 ≡ n
-  number-part wl rl nl = omega arith
+  arrival-part : six / 18014398509481984 % 2 ≡ a
+  arrival-part = omega arith
 
-module _ (t : Reply) (number-fits : t .number < 256) (delivered-fits : ByteFits (t .delivered))
+  request-part : six / 36028797018963968 % 2 ≡ q
+  request-part = omega arith
+
+  number-part : n < 256 → six / 72057594037927936 % 256 ≡ n
+  number-part low = omega arith
+
+bit-low : (n : ℕ) → droppedBit n < 2
+bit-low zero = omega arith
+bit-low (suc n) = omega arith
+
+-- A half's number is its own or 0.
+abbrev pub HalfFits : ℕ → ℕ → Type 0
+HalfFits own n = n ≡ droppedBit n * own
+
+module _ (t : Reply) (number-fits : t .number < 256) (arrival-fits : HalfFits 5 (t .arrivalNumber))
+    (request-fits : HalfFits 7 (t .requestNumber)) (delivered-fits : ByteFits (t .delivered))
     (written-fits : QueueFits (t .written)) (read-fits : QueueFits (t .read)) where
   abbrev n : ℕ
   n = t .number
+
+  abbrev q : ℕ
+  q = droppedBit (t .requestNumber)
+
+  abbrev a : ℕ
+  a = droppedBit (t .arrivalNumber)
 
   abbrev r : ℕ
   r = queueWord (t .read)
@@ -40,27 +64,45 @@ module _ (t : Reply) (number-fits : t .number < 256) (delivered-fits : ByteFits 
   abbrev d : ℕ
   d = byteWord (t .delivered)
 
-  low : d < 524288
-  low = byte-word-low (t .delivered) delivered-fits
+  d-low : d < 524288
+  d-low = byte-word-low (t .delivered) delivered-fits
 
-  written-low : w < 2048
-  written-low = queue-word-low (t .written) written-fits
+  w-low : w < 2048
+  w-low = queue-word-low (t .written) written-fits
 
-  read-low : r < 2048
-  read-low = queue-word-low (t .read) read-fits
+  r-low : r < 2048
+  r-low = queue-word-low (t .read) read-fits
+
+  a-low : a < 2
+  a-low = bit-low (t .arrivalNumber)
+
+  q-low : q < 2
+  q-low = bit-low (t .requestNumber)
 
   pub number-back : numberOf (answerWord t) ≡ t .number
   unfolding numberOf answerWord
-  number-back = number-part n r w d low written-low read-low number-fits
+  number-back = number-part n q a r w d d-low w-low r-low a-low q-low number-fits
+
+  pub arrival-number-back : arrivalNumberOf (answerWord t) ≡ t .arrivalNumber
+  unfolding arrivalNumberOf answerWord
+  arrival-number-back =
+      ap (λ (k : ℕ). k * 5) (arrival-part n q a r w d d-low w-low r-low a-low q-low) ∙ sym arrival-fits
+
+  pub request-number-back : requestNumberOf (answerWord t) ≡ t .requestNumber
+  unfolding requestNumberOf answerWord
+  request-number-back =
+      ap (λ (k : ℕ). k * 7) (request-part n q a r w d d-low w-low r-low a-low q-low) ∙ sym request-fits
 
   pub delivered-back : deliveredOf (answerWord t) ≡ t .delivered
   unfolding deliveredOf answerWord
-  delivered-back = delivered-part n r w d low ∙ byte-word-back (t .delivered) delivered-fits
+  delivered-back =
+      delivered-part n q a r w d d-low w-low r-low a-low q-low ∙ byte-word-back (t .delivered) delivered-fits
 
   pub written-back : writtenOf (answerWord t) ≡ t .written
   unfolding writtenOf answerWord
-  written-back = written-part n r w d low written-low ∙ queue-word-back (t .written) written-fits
+  written-back =
+      written-part n q a r w d d-low w-low r-low a-low q-low ∙ queue-word-back (t .written) written-fits
 
   pub read-back : readOf (answerWord t) ≡ t .read
   unfolding readOf answerWord
-  read-back = read-part n r w d low written-low read-low ∙ queue-word-back (t .read) read-fits
+  read-back = read-part n q a r w d d-low w-low r-low a-low q-low ∙ queue-word-back (t .read) read-fits

@@ -12,8 +12,10 @@
 --   41     1 where one is asked         29     1 where one was written
 --   42-    to be 0; not looked at yet   30-39  the queue read
 --                                       40     1 where one was read
---                                       41-55  0: for slots left and dropped halves
---                                       56-63  the refusal's number, or 0
+--                                       41-53  0: for slots left
+--                                       54     1 where the arrival was dropped (5)
+--                                       55     1 where the request was dropped (7)
+--                                       56-63  the number that stopped the slot, or 0
 use mathlib.Core.Option.{Option, some, none}
 use Prim.Native.Nat.{ℕ, zero, suc, _+_, _*_, _/_, _%_, min}
 use Rattle.model.specs.State.{Byte, byte}
@@ -56,15 +58,31 @@ byteIn queues w = valueOf (queueIn queues (w / 256)) (w % 256)
 unfoldable pub callOf : ℕ → Call
 callOf c = record { arrival = byteIn callQueues c; request = queueIn callQueues (c / 33554432) }
 
--- What a slot tells as a number: refusal's number, queue read, queue written, byte delivered.
+-- Whether a half was dropped, as one bit.
+abbrev pub droppedBit : ℕ → ℕ
+droppedBit zero = 0
+droppedBit (suc n) = 1
+
+-- What a slot tells as a number: the number that stopped it, which halves it dropped, queue read, queue written, byte
+-- delivered.
 unfoldable pub answerWord : Reply → ℕ
 answerWord r =
-    r .number * 72057594037927936 + queueWord (r .read) * 1073741824 + queueWord (r .written) * 524288
+    r .number * 72057594037927936
+    + droppedBit (r .requestNumber) * 36028797018963968
+    + droppedBit (r .arrivalNumber) * 18014398509481984
+    + queueWord (r .read) * 1073741824
+    + queueWord (r .written) * 524288
     + byteWord (r .delivered)
 
 -- What a number says as an answer.
 unfoldable pub numberOf : ℕ → ℕ
 numberOf a = a / 72057594037927936 % 256
+
+unfoldable pub arrivalNumberOf : ℕ → ℕ
+arrivalNumberOf a = a / 18014398509481984 % 2 * 5
+
+unfoldable pub requestNumberOf : ℕ → ℕ
+requestNumberOf a = a / 36028797018963968 % 2 * 7
 
 unfoldable pub deliveredOf : ℕ → Option Byte
 deliveredOf a = byteIn answerQueues a

@@ -4,7 +4,8 @@ ghost use mathlib.Core.Path.{_≡_};
 ghost use Prim.Native.Nat.{_<_};
 ghost use Rattle.layout.specs.Calls.{chosenIn, arrivalIn, requestIn, deliveryIn, callIn, replyIn};
 ghost use Rattle.run_words.specs.Words.{callQueues, answerQueues, byteWord, queueWord, byteIn, queueIn, callOf};
-ghost use Rattle.run_words.specs.Words.{answerWord, numberOf, deliveredOf, writtenOf, readOf};
+ghost use Rattle.run_words.specs.Words.{droppedBit, answerWord, numberOf, arrivalNumberOf, requestNumberOf};
+ghost use Rattle.run_words.specs.Words.{deliveredOf, writtenOf, readOf};
 ghost use Rattle.run_words.specs.Words.{nearest, nearByte, nearQueue};
 use layout::Arrival;
 use layout::Chosen;
@@ -89,7 +90,18 @@ fn chosen_bits(chosen: Chosen) -> u64
     }
 }
 
-// What a slot tells as one number: the refusal's number or 0, the queue read, the queue written and the byte delivered.
+// Whether a half with this number was dropped, as one bit.
+fn dropped_bit(number: u8) -> u64
+    ensures { λ r. ⌜ (r < 2) × (r ≡ droppedBit number) ⌝ }
+{
+    if number == 0 {
+        return 0;
+    }
+    1
+}
+
+// What a slot tells as one number: the number that stopped it or 0, which halves it dropped, the queue read, the queue
+// written and the byte delivered.
 pub fn answer_word(reply: Reply) -> u64
     ensures { λ r. ⌜ r ≡ answerWord (replyIn reply) ⌝ }
 {
@@ -97,16 +109,31 @@ pub fn answer_word(reply: Reply) -> u64
     let written = reply.written;
     let read = reply.read;
     (reply.number as u64) * 72057594037927936
+        + dropped_bit(reply.request_number) * 36028797018963968
+        + dropped_bit(reply.arrival_number) * 18014398509481984
         + chosen_bits(read) * 1073741824
         + chosen_bits(written) * 524288
         + delivery_bits(delivery)
 }
 
-// The refusal's number of an answer, or 0.
+// The number that stopped the slot of an answer, or 0.
 pub fn number_in(answer: u64) -> u8
     ensures { λ r. ⌜ r ≡ numberOf answer ⌝ }
 {
     (answer / 72057594037927936 % 256) as u8
+}
+
+// The numbers of an answer's halves: 5 or 0 of the arrival, 7 or 0 of the request.
+pub fn arrival_number_in(answer: u64) -> u8
+    ensures { λ r. ⌜ r ≡ arrivalNumberOf answer ⌝ }
+{
+    (answer / 18014398509481984 % 2 * 5) as u8
+}
+
+pub fn request_number_in(answer: u64) -> u8
+    ensures { λ r. ⌜ r ≡ requestNumberOf answer ⌝ }
+{
+    (answer / 36028797018963968 % 2 * 7) as u8
 }
 
 // The byte that an answer delivers.

@@ -51,7 +51,7 @@ pub fn put_delivery(output: &mut [u8], place: usize, slot: u64, queue: u8, value
     put_byte(output, behind_value, b'\n')
 }
 
-// R: the slot that was about to run was refused.
+// R: the slot that was about to run was stopped, or a half of the slot was dropped.
 pub fn put_refusal(output: &mut [u8], place: usize, slot: u64, number: u8) -> usize
     requires { ⌜ place + length (lineText (refusal slot number)) ≤ length (now output) ⌝ }
     ensures { λ r. ⌜ PutSays (lineText (refusal slot number)) place (now (output .entry)) r (now (output .exit)) ⌝ }

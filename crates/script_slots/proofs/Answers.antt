@@ -2,7 +2,6 @@
 -- so that it prints what its last slot prints.
 use mathlib.Core.Path.{_≡_, refl, ap, sym, _∙_, subst}
 use mathlib.Core.List.{List, [], _∷_, _++_, append-nil}
-use mathlib.Core.Option.{Option, some, none}
 use Prim.Native.Nat.{ℕ, zero, suc, _+_, _-_, _≤_, _<_}
 use native.Mathlib.Omega.{arith}
 use lib.Dec.{eqb}
@@ -10,7 +9,7 @@ use lib.ListN.{length, length-replicate}
 use borrow.Author.Tests.{ne-eqb}
 use Rattle.model.specs.Basics.{choose}
 use Rattle.model.specs.Sizes.{paper}
-use Rattle.model.specs.State.{Byte, byte, State}
+use Rattle.model.specs.State.{State}
 use Rattle.model.specs.Slot.{Call, Reply, Answer, slot}
 use Rattle.model.specs.Calls.{idle, idles}
 use Rattle.model.specs.Lists.{Step, stepOf, run, lastState, lastStore, accepted}
@@ -20,18 +19,19 @@ use Rattle.model.proofs.idle.QuietSlots.{idles-parts}
 use Rattle.model.proofs.idle.Stretch.{last-is-slot}
 use Rattle.layout.specs.Counts.{ByQueue}
 use Rattle.layout.specs.declared.Regs.{Regs}
-use Rattle.layout.specs.Calls.{deliveryIn}
+use Rattle.layout.specs.Calls.{replyIn}
 use Rattle.layout.specs.Views.{Arrays, stateIn}
 use Rattle.slot_in_place.specs.declared.Advanced.{Advanced}
 use Rattle.slot_in_place.specs.Says.{Ready, AdvanceSays}
 use Rattle.idle_in_place.specs.declared.Passed.{Passed}
 use Rattle.idle_in_place.specs.Says.{PassSays}
-use Rattle.script_lines.specs.Lines.{Line, delivery, refusal, lineText, text}
+use Rattle.script_lines.specs.Lines.{Line, refusal, lineText, text}
 use Rattle.script_lines.specs.Says.{PutSays}
-use Rattle.script_lines.proofs.Placed.{put-nothing}
+use Rattle.script_lines.proofs.Placed.{put-nothing, put-then-put, put-keeps-length}
 use Rattle.script_lines.proofs.Pieces.{one-line}
-use Rattle.script_text.specs.Run.{answerLines, countOn, slotLines}
-use Rattle.script_text.proofs.Append.{run-lines-append, run-count-append, quiet-prints-nothing, quiet-all-accepted}
+use Rattle.script_text.specs.Run.{deliveryLines, halfLines, runningLines, answerLines, countOn, slotLines}
+use Rattle.script_text.proofs.Append.{text-append, text-length-append, run-lines-append, run-count-append}
+use Rattle.script_text.proofs.Append.{quiet-prints-nothing, quiet-all-accepted}
 use Rattle.script_slots.specs.declared.Progress.{Progress}
 use Rattle.script_slots.specs.declared.AnswerPut.{AnswerPut}
 use Rattle.script_slots.specs.Says.{countLimit, AnswerFits, AnswerSays, RunsOn, Room}
@@ -45,79 +45,116 @@ put-line : (line : Line) {place : ℕ} {output : List ℕ} {r : ℕ} {output′ 
 put-line line {place} {output} {r} {output′} put =
     subst (λ (bytes : List ℕ). PutSays bytes place output r output′) (sym (one-line line)) put
 
-module _ (t number : ℕ) (delivered : Option Byte) (place : ℕ) (output : List ℕ) where
-  -- A refused slot.
-  module _ (refused : number ≡ 0 → ⊥) where
-    one-refusal : answerLines t number delivered ≡ refusal t number ∷ []
-    one-refusal = go number refused
-      where
-        go : (n : ℕ) → (n ≡ 0 → ⊥) → answerLines t n delivered ≡ refusal t n ∷ []
-        go zero f = absurd (f refl)
-        go (suc n) f = refl
+-- A half that was dropped, and one that was not.
+module _ (t number : ℕ) where
+  pub half-line : (number ≡ 0 → ⊥) → halfLines t number ≡ refusal t number ∷ []
+  half-line dropped = go number dropped
+    where
+      go : (n : ℕ) → (n ≡ 0 → ⊥) → halfLines t n ≡ refusal t n ∷ []
+      go zero f = absurd (f refl)
+      go (suc n) f = refl
 
-    same-count : t ≡ countOn t number
-    same-count = go number refused
+  pub no-half-line : number ≡ 0 → halfLines t number ≡ []
+  no-half-line taken = ap (halfLines t) taken
+
+-- One line, or none, where a slot may have one.
+module _ {lines : List Line} (place : ℕ) (output : List ℕ) where
+  pub line-fits : (line : Line) → lines ≡ line ∷ [] → place + length (text lines) ≤ length output
+      → place + length (lineText line) ≤ length output
+  line-fits line is fits =
+      omega (arith, fits, ap (λ (l : List Line). length (text l)) is, ap length (one-line line))
+
+  pub puts-line : (line : Line) → lines ≡ line ∷ [] → {r : ℕ} {output′ : List ℕ}
+      → PutSays (lineText line) place output r output′ → PutSays (text lines) place output r output′
+  puts-line line is {r} {output′} put =
+      subst (λ (l : List Line). PutSays (text l) place output r output′) (sym is) (put-line line put)
+
+  pub puts-nothing : lines ≡ [] → PutSays (text lines) place output place output
+  puts-nothing is =
+      subst (λ (l : List Line). PutSays (text l) place output place output) (sym is) (put-nothing place output)
+
+-- Lines behind lines: room for both is room for the first and, behind it, for the second; and both are put.
+module _ (xs ys : List Line) (place : ℕ) (output : List ℕ) (fits : place + length (text (xs ++ ys)) ≤ length output)
+  where
+    first-fits : place + length (text xs) ≤ length output
+    first-fits = omega (arith, fits, text-length-append xs ys)
+
+    module _ {r : ℕ} {output′ : List ℕ} (first : PutSays (text xs) place output r output′) where
+      next-fits : r + length (text ys) ≤ length output′
+      next-fits =
+          omega (arith, fits, text-length-append xs ys, first .place-is, put-keeps-length first first-fits)
+
+      both-put : {s : ℕ} {output″ : List ℕ} → PutSays (text ys) r output′ s output″
+          → PutSays (text (xs ++ ys)) place output s output″
+      both-put {s} {output″} next =
+          subst (λ (bytes : List ℕ). PutSays bytes place output s output″) (sym (text-append xs ys))
+          (put-then-put first next (omega (arith, fits, ap length (text-append xs ys))))
+
+module _ (t : ℕ) (reply : Reply) (place : ℕ) (output : List ℕ) where
+  -- A slot that was stopped.
+  module _ (refused : reply .number ≡ 0 → ⊥) where
+    one-refusal : answerLines t reply ≡ refusal t (reply .number) ∷ []
+    one-refusal = rw (ne-eqb (reply .number) 0 refused)
+
+    same-count : t ≡ countOn t (reply .number)
+    same-count = go (reply .number) refused
       where
         go : (n : ℕ) → (n ≡ 0 → ⊥) → t ≡ countOn t n
         go zero f = absurd (f refl)
         go (suc n) f = refl
 
-    pub refusal-fits : AnswerFits t number delivered place output
-        → place + length (lineText (refusal t number)) ≤ length output
-    refusal-fits fits =
-        omega (
-          arith,
-          fits .lines-fit,
-          ap (λ (l : List Line). length (text l)) one-refusal,
-          ap length (one-line (refusal t number)),
-        )
+    pub refusal-fits : AnswerFits t reply place output
+        → place + length (lineText (refusal t (reply .number))) ≤ length output
+    refusal-fits fits = line-fits place output (refusal t (reply .number)) one-refusal (fits .lines-fit)
 
-    pub answers-refusal : {r : ℕ} {output′ : List ℕ} → PutSays (lineText (refusal t number)) place output r output′
-        → AnswerSays t number delivered place output (put t r) output′
-    answers-refusal {r} {output′} put = record {
-      lines-are =
-          subst (λ (l : List Line). PutSays (text l) place output r output′) (sym one-refusal) (put-line _ put);
+    pub answers-refusal : {r : ℕ} {output′ : List ℕ}
+        → PutSays (lineText (refusal t (reply .number))) place output r output′
+        → AnswerSays t reply place output (put t r) output′
+    answers-refusal put = record {
+      lines-are = puts-line place output (refusal t (reply .number)) one-refusal put;
       slots-is = same-count;
     }
 
-  -- An accepted slot.
-  module _ (taken : number ≡ 0) where
-    one-more : t + 1 ≡ countOn t number
-    one-more = let e : t + 1 ≡ suc t = omega arith in e ∙ ap (countOn t) (sym taken)
+  -- A slot that ran: what it delivers, then its halves.
+  module _ (ran : reply .number ≡ 0) (fits : AnswerFits t reply place output) where
+    abbrev delivers : List Line
+    delivers = deliveryLines t (reply .delivered)
 
-    module _ (queue value : ℕ) (gives : delivered ≡ some (byte queue value)) where
-      one-delivery : answerLines t number delivered ≡ delivery t queue value ∷ []
-      one-delivery =
-          ap (λ (n : ℕ). answerLines t n delivered) taken
-          ∙ ap (λ (d : Option Byte). answerLines t 0 d) gives
+    abbrev arrivalLines : List Line
+    arrivalLines = halfLines t (reply .arrivalNumber)
 
-      pub delivery-fits : AnswerFits t number delivered place output
-          → place + length (lineText (delivery t queue value)) ≤ length output
-      delivery-fits fits =
-          omega (
-            arith,
-            fits .lines-fit,
-            ap (λ (l : List Line). length (text l)) one-delivery,
-            ap length (one-line (delivery t queue value)),
-          )
+    abbrev requestLines : List Line
+    requestLines = halfLines t (reply .requestNumber)
 
-      pub answers-delivery : {r : ℕ} {output′ : List ℕ}
-          → PutSays (lineText (delivery t queue value)) place output r output′
-          → AnswerSays t number delivered place output (put (t + 1) r) output′
-      answers-delivery {r} {output′} put = record {
-        lines-are =
-            subst (λ (l : List Line). PutSays (text l) place output r output′) (sym one-delivery) (put-line _ put);
-        slots-is = one-more;
-      }
+    all-lines : answerLines t reply ≡ runningLines t reply
+    all-lines = rw ran
 
-    pub answers-nothing : delivered ≡ none → AnswerSays t number delivered place output (put (t + 1) place) output
-    answers-nothing silent = record {
-      lines-are =
-          subst (λ (l : List Line). PutSays (text l) place output place output)
-          (sym (ap (λ (n : ℕ). answerLines t n delivered) taken ∙ ap (λ (d : Option Byte). answerLines t 0 d) silent))
-          (put-nothing place output);
-      slots-is = one-more;
-    }
+    all-fit : place + length (text (runningLines t reply)) ≤ length output
+    all-fit = omega (arith, fits .lines-fit, ap (λ (l : List Line). length (text l)) all-lines)
+
+    pub delivery-fits : place + length (text delivers) ≤ length output
+    delivery-fits = first-fits delivers (arrivalLines ++ requestLines) place output all-fit
+
+    module _ {p : ℕ} {output₁ : List ℕ} (delivered : PutSays (text delivers) place output p output₁) where
+      halves-fit : p + length (text (arrivalLines ++ requestLines)) ≤ length output₁
+      halves-fit = next-fits delivers (arrivalLines ++ requestLines) place output all-fit delivered
+
+      pub arrival-fits : p + length (text arrivalLines) ≤ length output₁
+      arrival-fits = first-fits arrivalLines requestLines p output₁ halves-fit
+
+      module _ {q : ℕ} {output₂ : List ℕ} (arrived : PutSays (text arrivalLines) p output₁ q output₂) where
+        pub request-fits : q + length (text requestLines) ≤ length output₂
+        request-fits = next-fits arrivalLines requestLines p output₁ halves-fit arrived
+
+        pub answers-halves : {r : ℕ} {output₃ : List ℕ} → PutSays (text requestLines) q output₂ r output₃
+            → AnswerSays t reply place output (put (t + 1) r) output₃
+        answers-halves {r} {output₃} asked = record {
+          lines-are =
+              subst (λ (l : List Line). PutSays (text l) place output r output₃) (sym all-lines)
+              (both-put delivers (arrivalLines ++ requestLines) place output all-fit delivered
+              (both-put arrivalLines requestLines p output₁ halves-fit arrived asked));
+          slots-is = let e : t + 1 ≡ suc t = omega arith in e ∙ ap (countOn t) (sym ran);
+        }
 
 -- n idle slots are i of them and those left.
 pub idles-left : (n i : ℕ) → i ≤ n → idles n ≡ idles i ++ idles (n - i)
@@ -137,39 +174,32 @@ counts-one t step = go (step .reply .number)
 -- The slot in place.
 module _ {x : State} {store : List ℕ} {call : Call} {a : Advanced} {m : Arrays} {counts : ByQueue} {store′ : List ℕ}
     (says : AdvanceSays x store call a m counts store′) where
-  number-is : a .reply .number ≡ slot paper x store call .reply .number
-  number-is = ap (λ (b : Answer). b .reply .number) (says .answer-is)
+  reply-is : replyIn (a .reply) ≡ slot paper x store call .reply
+  reply-is = ap (λ (b : Answer). b .reply) (says .answer-is)
 
-  delivered-is : deliveryIn (a .reply .delivery) ≡ slot paper x store call .reply .delivered
-  delivered-is = ap (λ (b : Answer). b .reply .delivered) (says .answer-is)
-
-  slot-lines : (t : ℕ) → answerLines t (a .reply .number) (deliveryIn (a .reply .delivery))
-      ≡ slotLines t (run paper x store (call ∷ []))
-  slot-lines t =
-      ap (λ (n : ℕ). answerLines t n (deliveryIn (a .reply .delivery))) number-is
-      ∙ ap (λ (d : Option Byte). answerLines t (slot paper x store call .reply .number) d) delivered-is
-      ∙ sym (append-nil (answerLines t (slot paper x store call .reply .number) (slot paper x store call .reply .delivered)))
+  slot-lines : (t : ℕ) → answerLines t (replyIn (a .reply)) ≡ slotLines t (run paper x store (call ∷ []))
+  slot-lines t = ap (answerLines t) reply-is ∙ sym (append-nil (answerLines t (slot paper x store call .reply)))
 
   pub slot-answer-fits : {t place : ℕ} {output : List ℕ} → Room x store (call ∷ []) t place output
-      → AnswerFits t (a .reply .number) (deliveryIn (a .reply .delivery)) place output
+      → AnswerFits t (replyIn (a .reply)) place output
   slot-answer-fits {t} room = record {
     lines-fit = omega (arith, room .lines-fit, ap (λ (l : List Line). length (text l)) (slot-lines t));
     slots-fit = omega (arith, room .slots-fit);
   }
 
   pub slot-runs : {t place : ℕ} {output output′ : List ℕ} {r : AnswerPut} {p : Progress}
-      → AnswerSays t (a .reply .number) (deliveryIn (a .reply .delivery)) place output r output′
+      → AnswerSays t (replyIn (a .reply)) place output r output′
       → p .regs ≡ a .regs → p .slots ≡ r .slots → p .place ≡ r .place
       → RunsOn x store (call ∷ []) t place output p m counts store′ output′
   slot-runs {t} {place} {output} {output′} {r} {p} answered es et ep = record {
     state-is = ap (λ (s : Regs). stateIn s m) es ∙ ap (λ (b : Answer). b .state) (says .answer-is);
     store-is = ap (λ (b : Answer). b .store) (says .answer-is);
     slots-is =
-        et ∙ answered .slots-is ∙ ap (countOn t) number-is
+        et ∙ answered .slots-is ∙ ap (λ (b : Reply). countOn t (b .number)) reply-is
         ∙ counts-one t (stepOf x store call (slot paper x store call));
     lines-are =
         subst (λ (l : List Line). PutSays (text l) place output (p .place) output′) (slot-lines t)
-        (subst (λ (n : ℕ). PutSays (text (answerLines t (a .reply .number) (deliveryIn (a .reply .delivery)))) place output n output′)
+        (subst (λ (n : ℕ). PutSays (text (answerLines t (replyIn (a .reply)))) place output n output′)
         (sym ep) (answered .lines-are));
     ready = subst (λ (s : Regs). Ready s m counts store′) (sym es) (says .ready);
   }
@@ -200,11 +230,8 @@ module _ {x : State} {store : List ℕ} {n : ℕ} {r : Passed} {m : Arrays} {cou
     last-is : lastAnswer paper x store (r .passed) ≡ slot paper y bytes idle
     last-is = last-is-slot paper x store (r .passed) some-passed
 
-    number-last : r .reply .number ≡ last .reply .number
-    number-last = ap (λ (t : Reply). t .number) (says .stretch .last-is) ∙ ap (λ (a : Answer). a .reply .number) last-is
-
-    delivered-last : deliveryIn (r .reply .delivery) ≡ last .reply .delivered
-    delivered-last = ap (λ (t : Reply). t .delivered) (says .stretch .last-is) ∙ ap (λ (a : Answer). a .reply .delivered) last-is
+    reply-last : replyIn (r .reply) ≡ last .reply
+    reply-last = says .stretch .last-is ∙ ap (λ (a : Answer). a .reply) last-is
 
     parts : idles (r .passed) ≡ idles before ++ idle ∷ []
     parts = idles-parts (r .passed) before 1 (omega (arith, some-passed))
@@ -216,21 +243,20 @@ module _ {x : State} {store : List ℕ} {n : ℕ} {r : Passed} {m : Arrays} {cou
         ∙ length-replicate before idle
 
     stretch-lines : (t : ℕ) → slotLines t (run paper x store (idles (r .passed)))
-        ≡ answerLines (t + before) (r .reply .number) (deliveryIn (r .reply .delivery))
+        ≡ answerLines (t + before) (replyIn (r .reply))
     stretch-lines t =
         ap (λ (cs : List Call). slotLines t (run paper x store cs)) parts
         ∙ run-lines-append paper x store (idles before) (idle ∷ []) t
         ∙ ap (λ (l : List Line). l ++ slotLines (t + length (accepted (run paper x store (idles before)))) (last ∷ []))
         (quiet-prints-nothing t (run paper x store (idles before)) (says .stretch .quiet-first))
         ∙ ap (λ (k : ℕ). slotLines (t + k) (last ∷ [])) all-before
-        ∙ append-nil (answerLines (t + before) (last .reply .number) (last .reply .delivered))
-        ∙ ap (λ (k : ℕ). answerLines (t + before) k (last .reply .delivered)) (sym number-last)
-        ∙ ap (answerLines (t + before) (r .reply .number)) (sym delivered-last)
+        ∙ append-nil (answerLines (t + before) (last .reply))
+        ∙ ap (answerLines (t + before)) (sym reply-last)
 
     stretch-count : (t : ℕ) → countOn (t + before) (r .reply .number)
         ≡ t + length (accepted (run paper x store (idles (r .passed))))
     stretch-count t =
-        ap (countOn (t + before)) number-last
+        ap (λ (told : Reply). countOn (t + before) (told .number)) reply-last
         ∙ counts-one (t + before) last
         ∙ omega (
           arith,
@@ -245,7 +271,7 @@ module _ {x : State} {store : List ℕ} {n : ℕ} {r : Passed} {m : Arrays} {cou
         omega (arith, room .slots-fit, some-passed, most-passed, length-replicate n idle)
 
     pub stretch-answer-fits : {t place : ℕ} {output : List ℕ} → Room x store (idles n) t place output
-        → AnswerFits (t + before) (r .reply .number) (deliveryIn (r .reply .delivery)) place output
+        → AnswerFits (t + before) (replyIn (r .reply)) place output
     stretch-answer-fits {t} {place} {output} room = record {
       lines-fit = omega (arith, passed-room .lines-fit, ap (λ (l : List Line). length (text l)) (stretch-lines t));
       slots-fit = before-fits room;
@@ -258,7 +284,7 @@ module _ {x : State} {store : List ℕ} {n : ℕ} {r : Passed} {m : Arrays} {cou
             (idles-left n (r .passed) most-passed) room)
 
     pub stretch-runs : (t : ℕ) {place : ℕ} {output output′ : List ℕ} {a : AnswerPut} {p : Progress}
-        → AnswerSays (t + before) (r .reply .number) (deliveryIn (r .reply .delivery)) place output a output′
+        → AnswerSays (t + before) (replyIn (r .reply)) place output a output′
         → p .regs ≡ r .regs → p .slots ≡ a .slots → p .place ≡ a .place
         → RunsOn x store (idles (r .passed)) t place output p m counts store′ output′
     stretch-runs t {place} {output} {output′} {a} {p} answered es et ep = record {
@@ -269,8 +295,7 @@ module _ {x : State} {store : List ℕ} {n : ℕ} {r : Passed} {m : Arrays} {cou
           subst (λ (l : List Line). PutSays (text l) place output (p .place) output′)
           (sym (stretch-lines t))
           (subst
-          (λ (i : ℕ). PutSays (text (answerLines (t + before) (r .reply .number) (deliveryIn (r .reply .delivery)))) place output i
-          output′)
+          (λ (i : ℕ). PutSays (text (answerLines (t + before) (replyIn (r .reply)))) place output i output′)
           (sym ep) (answered .lines-are));
       ready = subst (λ (z : Regs). Ready z m counts store′) (sym es) (says .ready);
     }

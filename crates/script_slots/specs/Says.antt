@@ -1,12 +1,11 @@
 -- What slots that are run and printed promise, by the definition of their lines.
 use mathlib.Core.Path.{_≡_}
 use mathlib.Core.List.{List, [], _∷_}
-use mathlib.Core.Option.{Option}
 use Prim.Native.Nat.{ℕ, _+_, _≤_, _<_}
 use lib.ListN.{length}
 use Rattle.model.specs.Sizes.{paper}
-use Rattle.model.specs.State.{Byte, State}
-use Rattle.model.specs.Slot.{Call}
+use Rattle.model.specs.State.{State}
+use Rattle.model.specs.Slot.{Call, Reply}
 use Rattle.model.specs.Calls.{idles}
 use Rattle.model.specs.Lists.{run, lastState, lastStore, accepted}
 use Rattle.layout.specs.Counts.{ByQueue}
@@ -25,16 +24,16 @@ use Rattle.script_slots.specs.declared.Wanted.the-variants.{One, Many}
 abbrev pub countLimit : ℕ
 countLimit = 18_446_744_073_709_551_616
 
--- What the lines of one slot need, which answers a number and a delivery, t slots having been accepted before it.
-pub record AnswerFits (t number : ℕ) (delivered : Option Byte) (place : ℕ) (output : List ℕ) : Type 0 where
-  pub lines-fit : place + length (text (answerLines t number delivered)) ≤ length output
+-- What the lines of one slot need, which tells this, t slots having been accepted before it.
+pub record AnswerFits (t : ℕ) (reply : Reply) (place : ℕ) (output : List ℕ) : Type 0 where
+  pub lines-fit : place + length (text (answerLines t reply)) ≤ length output
   pub slots-fit : t + 1 < countLimit
 
 -- The lines of one slot, and how many slots have been accepted with it.
-pub record AnswerSays (t number : ℕ) (delivered : Option Byte) (place : ℕ) (output : List ℕ) (r : AnswerPut)
-    (output′ : List ℕ) : Type 0 where
-  pub lines-are : PutSays (text (answerLines t number delivered)) place output (r .place) output′
-  pub slots-is : r .slots ≡ countOn t number
+pub record AnswerSays (t : ℕ) (reply : Reply) (place : ℕ) (output : List ℕ) (r : AnswerPut) (output′ : List ℕ)
+    : Type 0 where
+  pub lines-are : PutSays (text (answerLines t reply)) place output (r .place) output′
+  pub slots-is : r .slots ≡ countOn t (reply .number)
 
 -- Slots run from a state on, t slots having been accepted before: state and store as the model's list leaves them, how
 -- many have been accepted then, their lines in the output from this place on, and the state ready for more.

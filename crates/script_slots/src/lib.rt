@@ -1,13 +1,17 @@
 // Slots run in place, and their lines put into a lent output: one slot, idle slots, the slots of one command.
 ghost use mathlib.Core.Path.{_≡_};
 ghost use mathlib.Core.List.{[], _∷_};
+ghost use Prim.Native.Nat.{_+_, _≤_};
+ghost use lib.ListN.{length};
 ghost use Rattle.model.specs.Calls.{idles};
-ghost use Rattle.layout.specs.Calls.{callIn, deliveryIn};
+ghost use Rattle.layout.specs.Calls.{callIn, deliveryIn, replyIn};
 ghost use Rattle.layout.specs.Lent.{given, found, left, countsGiven, countsLeft};
 ghost use Rattle.layout.specs.Views.{stateIn};
 ghost use Rattle.slot_in_place.specs.Says.{Ready};
 ghost use Rattle.script_commands.specs.Values.{commandIn};
-ghost use Rattle.script_text.specs.Run.{slotsOf};
+ghost use Rattle.script_lines.specs.Lines.{text};
+ghost use Rattle.script_lines.specs.Says.{PutSays};
+ghost use Rattle.script_text.specs.Run.{slotsOf, deliveryLines, halfLines};
 ghost use Rattle.script_slots.specs.Says.{AnswerFits, AnswerSays, RunsOn, Room, wantedIn};
 use layout::Arrival;
 use layout::CellArray;
@@ -16,6 +20,7 @@ use layout::Delivery;
 use layout::HeadArray;
 use layout::REGS;
 use layout::Regs;
+use layout::Reply;
 use layout::Request;
 use layout::RingArray;
 use layout::TailArray;
@@ -34,38 +39,56 @@ struct AnswerPut {
     place: usize,
 }
 
-// The lines of one slot that answers a number and a delivery, and the count on.
-fn put_answer(
-    output: &mut [u8],
-    place: usize,
-    slots: u64,
-    number: u8,
-    delivery: Delivery,
-) -> AnswerPut
-    requires { ⌜ AnswerFits slots number (deliveryIn delivery) place (now output) ⌝ }
-    ensures { λ r. ⌜ AnswerSays slots number (deliveryIn delivery) place (now (output .entry)) r
+// D for a byte that is delivered; without one nothing.
+fn put_delivered(output: &mut [u8], place: usize, slots: u64, delivery: Delivery) -> usize
+    requires { ⌜ place + length (text (deliveryLines slots (deliveryIn delivery))) ≤ length (now output) ⌝ }
+    ensures { λ r. ⌜ PutSays (text (deliveryLines slots (deliveryIn delivery))) place (now (output .entry)) r
         (now (output .exit)) ⌝ }
 {
+    match delivery {
+        Delivery::Gives(queue, value) => script_lines::put_delivery(
+            output,
+            place,
+            slots,
+            queue,
+            value,
+        ),
+        Delivery::NoDelivery => place,
+    }
+}
+
+// R for a half of a slot that was dropped with this number; nothing for 0.
+fn put_half(output: &mut [u8], place: usize, slots: u64, number: u8) -> usize
+    requires { ⌜ place + length (text (halfLines slots number)) ≤ length (now output) ⌝ }
+    ensures { λ r. ⌜ PutSays (text (halfLines slots number)) place (now (output .entry)) r (now (output .exit)) ⌝ }
+{
+    if number == 0 {
+        return place;
+    }
+    script_lines::put_refusal(output, place, slots, number)
+}
+
+// The lines of one slot that tells this, and the count on: D before R, the arrival's R before the request's. A slot
+// that was stopped has its R alone.
+fn put_answer(output: &mut [u8], place: usize, slots: u64, reply: Reply) -> AnswerPut
+    requires { ⌜ AnswerFits slots (replyIn reply) place (now output) ⌝ }
+    ensures { λ r. ⌜ AnswerSays slots (replyIn reply) place (now (output .entry)) r (now (output .exit)) ⌝ }
+{
     let count = slots + 1;
-    if number != 0 {
-        let behind = script_lines::put_refusal(output, place, slots, number);
+    if reply.number != 0 {
+        let behind = script_lines::put_refusal(output, place, slots, reply.number);
         return AnswerPut {
             slots: slots,
             place: behind,
         };
     }
-    match delivery {
-        Delivery::Gives(queue, value) => {
-            let behind = script_lines::put_delivery(output, place, slots, queue, value);
-            AnswerPut {
-                slots: count,
-                place: behind,
-            }
-        }
-        Delivery::NoDelivery => AnswerPut {
-            slots: count,
-            place: place,
-        },
+    let delivery = reply.delivery;
+    let behind_delivery = put_delivered(output, place, slots, delivery);
+    let behind_arrival = put_half(output, behind_delivery, slots, reply.arrival_number);
+    let behind_request = put_half(output, behind_arrival, slots, reply.request_number);
+    AnswerPut {
+        slots: count,
+        place: behind_request,
     }
 }
 
@@ -115,8 +138,7 @@ fn run_slot(
         store,
     );
     let next = layout::regs_in(&lent);
-    let delivery = reply.delivery;
-    let put = put_answer(output, start.place, start.slots, reply.number, delivery);
+    let put = put_answer(output, start.place, start.slots, reply);
     Progress {
         regs: next,
         slots: put.slots,
@@ -170,9 +192,8 @@ fn run_idles(
         let next = stretch.regs;
         let passed = stretch.passed;
         let reply = stretch.reply;
-        let delivery = reply.delivery;
         let before_last = reached.slots + (passed - 1) as u64;
-        let put = put_answer(output, reached.place, before_last, reply.number, delivery);
+        let put = put_answer(output, reached.place, before_last, reply);
         reached = Progress {
             regs: next,
             slots: put.slots,

@@ -26,6 +26,9 @@ text-append (line ∷ xs) ys =
     ap (λ (bytes : List ℕ). lineText line ++ bytes) (text-append xs ys)
     ∙ sym (append-assoc (lineText line) (text xs) (text ys))
 
+pub text-length-append : (xs ys : List Line) → length (text (xs ++ ys)) ≡ length (text xs) + length (text ys)
+text-length-append xs ys = ap length (text-append xs ys) ∙ length-append (text xs) (text ys)
+
 -- A refused slot's number is not 0.
 pub refused-test : (n : ℕ) → eqb (suc n) 0 ≡ false
 refused-test n = ne-eqb (suc n) 0 (λ e. omega (arith, e))
@@ -63,7 +66,7 @@ slot-lines-append t (step ∷ xs) ys =
     (slotLines (t + length (accepted (step ∷ xs))) ys))
   where
     first : List Line
-    first = answerLines t (step .reply .number) (step .reply .delivered)
+    first = answerLines t (step .reply)
 
 -- The same of a run of calls in two parts, the second on what the first left (`last-append` and `last-store-append` of
 -- the model say what both leave).

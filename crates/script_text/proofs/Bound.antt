@@ -1,6 +1,7 @@
--- A script prints at most 10 bytes for each of its own, and 11 more (`text-fits`). A slot's line has at most 20 bytes:
--- for each slot that is not idle there is at most one such line, and its command has two bytes or more. The last line
--- has at most 13 bytes, for which the end's own byte is there too. A fault's line has at most 11.
+-- A script prints at most 10 bytes for each of its own, and 11 more (`text-fits`). A line of a slot has at most 20
+-- bytes, and each half of a call has at most one such line: an arrival its 5, a request its 7 or, taken, its delivery,
+-- and a slot that is stopped one line for its halves. A command has two bytes or more for each half. The last line has
+-- at most 13 bytes, for which the end's own byte is there too. A fault's line has at most 11.
 use mathlib.Core.Path.{_≡_, refl, ap}
 use mathlib.Core.Bool.{Bool, true, false, not}
 use mathlib.Core.List.{List, [], _∷_, _++_}
@@ -13,6 +14,7 @@ use borrow.Author.Tests.{eqb-true, ltb-true, ltb-false, not-false}
 use Rattle.model.specs.Basics.{choose, All, when, firstRefusal}
 use Rattle.model.specs.Sizes.{Sizes, accepts, paper, paperLimits, storeBytes}
 use Rattle.model.specs.State.{Byte, fresh}
+use Rattle.model.specs.Slot.{Reply}
 use Rattle.model.specs.Lists.{Step, accepted, deliveries}
 use Rattle.model.specs.Demand.{NoMiss, ListMeets}
 use Rattle.model.proofs.basics.Tests.{by-test}
@@ -24,16 +26,17 @@ use Rattle.model.proofs.Demand.{every-list}
 use Rattle.script_commands.specs.Commands as of
 use Rattle.script_commands.specs.Scripts.{Script, judge}
 use Rattle.script_lines.specs.Lines.{delivery, refusal, ending, fault, lineText, text}
-use Rattle.script_text.specs.Run.{mostBytes, slotsOfAll, sizesOf, deliveryLines, answerLines, countOn, slotLines}
-use Rattle.script_text.specs.Run.{listLines, startNumber, scriptSteps, startedLines, judgedLines, scriptLines}
-use Rattle.script_text.specs.Run.{outputBound}
+use Rattle.script_text.specs.Run.{mostBytes, slotsOfAll, sizesOf, deliveryLines, halfLines, runningLines, countOn}
+use Rattle.script_text.specs.Run.{slotLines, listLines, startNumber, scriptSteps, startedLines, judgedLines}
+use Rattle.script_text.specs.Run.{scriptLines, outputBound}
 use Rattle.script_text.proofs.Examples.{listing, prints}
-use Rattle.script_text.proofs.Append.{text-append, refused-test}
+use Rattle.script_text.proofs.Append.{text-append, text-length-append, refused-test}
 use Rattle.script_text.proofs.Lengths.{mostSlots, delivery-length, refusal-length, ending-length, fault-length}
 use Rattle.script_text.proofs.Lengths.{one-line-length, start-lines-length}
 use Rattle.script_text.proofs.Delivered.{IfAny, one, present, TakesSmall, SmallByte}
 use Rattle.script_text.proofs.Delivered.{deliveries-small, deliveries-few}
-use Rattle.script_text.proofs.SlotCharges.{busyOf, refusedOf, NoneOfIdle, ArrivalBelow, run-says, run-pays}
+use Rattle.script_text.proofs.SlotCharges.{halvesOf, told, toldOf, NoneOfIdle, NumbersLow}
+use Rattle.script_text.proofs.SlotCharges.{ArrivalBelow, run-says, run-pays}
 use Rattle.script_text.proofs.ScriptCharges.{Bytes, ScriptPays, judged-pays}
 
 -- Properties of all slots of a list.
@@ -47,9 +50,14 @@ all-accepted P (step ∷ steps) h = by-test (eqb (step .reply .number) 0)
     (λ t. rw t (h .0, all-accepted P steps (h .1)))
     (λ t. rw t (all-accepted P steps (h .1)))
 
--- The lines of slots: 20 bytes for each that is refused and for each that delivers.
+-- The lines of slots: 20 bytes for each refusal that is told and for each delivery.
 abbrev lineCount : List Step → ℕ
-lineCount steps = refusedOf steps + present (deliveries (accepted steps))
+lineCount steps = toldOf steps + present (deliveries (accepted steps))
+
+half-short : (t n : ℕ) → t < mostSlots → n ≤ 10 → length (text (halfLines t n)) ≤ 20 * told n
+half-short t zero l low = omega arith
+half-short t (suc n) l low =
+    omega (arith, one-line-length (refusal t (suc n)), refusal-length t (suc n) l (omega (arith, low)))
 
 module _ (queues values : ℕ) (two : queues ≤ 100) (three : values ≤ 1000) where
   abbrev Regs : Option Byte → Type 0
@@ -66,35 +74,53 @@ module _ (queues values : ℕ) (two : queues ≤ 100) (three : values ≤ 1000) 
             (omega (arith, three, h .value-small)),
       )
 
+  -- The lines of a slot that runs.
+  running-short : (t : ℕ) (r : Reply) → t < mostSlots → NumbersLow r → Regs (r .delivered)
+      → length (text (runningLines t r))
+      ≤ 20 * (one (r .delivered) + (told (r .arrivalNumber) + told (r .requestNumber)))
+  running-short t r l low regs =
+      omega (
+        arith,
+        text-length-append (deliveryLines t (r .delivered))
+            (halfLines t (r .arrivalNumber) ++ halfLines t (r .requestNumber)),
+        text-length-append (halfLines t (r .arrivalNumber)) (halfLines t (r .requestNumber)),
+        delivery-short t (r .delivered) l regs,
+        half-short t (r .arrivalNumber) l (low .arrival-low),
+        half-short t (r .requestNumber) l (low .request-low),
+      )
+
   slot-lines-short : (t : ℕ) (steps : List Step) → t + length steps ≤ mostSlots
-      → All (λ (step : Step). step .reply .number ≤ 10) steps → All Regs (deliveries (accepted steps))
+      → All (λ (step : Step). NumbersLow (step .reply)) steps → All Regs (deliveries (accepted steps))
       → length (text (slotLines t steps)) ≤ 20 * lineCount steps
   slot-lines-short t [] l low regs = omega arith
   slot-lines-short t (step ∷ steps) l low regs =
-      by-number (step .reply .number) (low .0) regs (λ u m h. slot-lines-short u steps m (low .1) h)
+      by-number (step .reply .number) (low .0 .number-low) regs (λ u m h. slot-lines-short u steps m (low .1) h)
     where
+      r : Reply
+      r = step .reply
+
       taken-with : ℕ → List Step
       taken-with n = choose (eqb n 0) (step ∷ accepted steps) (accepted steps)
 
       by-number : (n : ℕ) → n ≤ 10 → All Regs (deliveries (taken-with n))
           → ((u : ℕ) → u + length steps ≤ mostSlots → All Regs (deliveries (accepted steps))
           → length (text (slotLines u steps)) ≤ 20 * lineCount steps)
-          → length (text (answerLines t n (step .reply .delivered) ++ slotLines (countOn t n) steps))
-          ≤ 20 * ((choose (eqb n 0) 0 1 + refusedOf steps) + present (deliveries (taken-with n)))
-      by-number zero low regs later =
+          → length (text (choose (eqb n 0) (runningLines t r) (refusal t n ∷ []) ++ slotLines (countOn t n) steps))
+          ≤ 20 * (((told n + (told (r .arrivalNumber) + told (r .requestNumber))) + toldOf steps)
+          + present (deliveries (taken-with n)))
+      by-number zero small regs later =
           omega (
             arith,
-            ap length (text-append (deliveryLines t (step .reply .delivered)) (slotLines (suc t) steps)),
-            length-append (text (deliveryLines t (step .reply .delivered))) (text (slotLines (suc t) steps)),
-            delivery-short t (step .reply .delivered) (omega (arith, l)) (regs .0),
+            text-length-append (runningLines t r) (slotLines (suc t) steps),
+            running-short t r (omega (arith, l)) (low .0) (regs .0),
             later (suc t) (omega (arith, l)) (regs .1),
           )
-      by-number (suc n) low regs later =
+      by-number (suc n) small regs later =
           let others : All Regs (deliveries (accepted steps)) = rw (refused-test n) at regs in
           rw (refused-test n) (omega (
             arith,
             length-append (lineText (refusal t (suc n))) (text (slotLines t steps)),
-            refusal-length t (suc n) (omega (arith, l)) (omega (arith, low)),
+            refusal-length t (suc n) (omega (arith, l)) (omega (arith, small)),
             later t (omega (arith, l)) others,
           ))
 
@@ -122,7 +148,8 @@ module _ (s : Sizes) (store : List ℕ) (e : startNumber s store ≡ 0) where
 
 -- Demand 3 rules out every refusal that an idle slot could have.
 none-of-idle : (steps : List Step) → All NoMiss steps → All (λ (step : Step). step .reply .number ≡ 3 → ⊥) steps
-    → All (λ (step : Step). step .reply .number ≡ 2 → ⊥) steps → All (λ (step : Step). NoneOfIdle (step .reply .number)) steps
+    → All (λ (step : Step). step .reply .number ≡ 2 → ⊥) steps
+    → All (λ (step : Step). NoneOfIdle (step .reply .number)) steps
 none-of-idle [] miss three two = tt
 none-of-idle (step ∷ steps) miss three two = (
   record { not-2 = two .0; not-3 = three .0; not-8 = miss .0 .not-8; not-10 = miss .0 .not-10 },
@@ -138,10 +165,10 @@ module _ (cs : List of.Command) (store : List ℕ) (e : startNumber (sizesOf cs)
   meets : ListMeets (sizesOf cs) store steps
   meets = every-list paperLimits (sizesOf cs) store (slotsOfAll cs) (sizes-accepted (sizesOf cs) store e)
 
-  says : All (λ (step : Step). (step .reply .number ≤ 10) × TakesSmall (sizesOf cs .Q) 256 step) steps
+  says : All (λ (step : Step). NumbersLow (step .reply) × TakesSmall (sizesOf cs .Q) 256 step) steps
   says = run-says paper 256 (sizesOf cs) (fresh paper (sizesOf cs)) store (slotsOfAll cs) refl values-small
 
-  lines-paid : lineCount steps ≤ busyOf (slotsOfAll cs)
+  lines-paid : lineCount steps ≤ halvesOf (slotsOfAll cs)
   lines-paid =
       omega (
         arith,
@@ -150,7 +177,7 @@ module _ (cs : List of.Command) (store : List ℕ) (e : startNumber (sizesOf cs)
             (none-of-idle steps (meets .no-miss) (meets .no-3) (meets .no-2 (store-long (sizesOf cs) store e))),
       )
 
-  list-short : length (text (listLines steps)) ≤ 20 * busyOf (slotsOfAll cs) + 13
+  list-short : length (text (listLines steps)) ≤ 20 * halvesOf (slotsOfAll cs) + 13
   list-short =
       omega (
         arith,
@@ -173,7 +200,7 @@ module _ (cs : List of.Command) (store : List ℕ) (e : startNumber (sizesOf cs)
 
 started-fits : (start n : ℕ) (cs : List of.Command) (store : List ℕ) → startNumber (sizesOf cs) store ≡ start
     → All (ArrivalBelow 256) (slotsOfAll cs) → length (slotsOfAll cs) < mostSlots
-    → 2 * busyOf (slotsOfAll cs) + 1 ≤ n
+    → 2 * halvesOf (slotsOfAll cs) + 1 ≤ n
     → length (text (startedLines start cs store)) ≤ 10 * n + 11
 started-fits zero n cs store e values-small few paid = omega (arith, paid, list-short cs store e values-small few)
 started-fits (suc k) n cs store e values-small few paid =
@@ -183,7 +210,7 @@ judged-fits : (s : Script) (n : ℕ) (store : List ℕ) → ScriptPays 1 0 n s �
     → length (text (judgedLines s store)) ≤ 10 * n + 11
 judged-fits s n store pays l = by-test (eqb (s .number) 0)
     (λ t. rw t (started-fits (startNumber (sizesOf (s .commands)) store) n (s .commands) store refl (pays .values-small)
-    (omega (arith, pays .slots-few, l)) (pays .busy-paid (eqb-true (s .number) 0 t))))
+    (omega (arith, pays .slots-few, l)) (pays .halves-paid (eqb-true (s .number) 0 t))))
     (λ t. rw t (omega (
       arith,
       one-line-length (fault (s .number) (s .offset)),

@@ -50,7 +50,7 @@ listing =
     0x04 ∷ 0x02 ∷ 0x00 ∷
     0x05 ∷ [])
     4
-    "D 2 0 65\nR 3 7\nD 4 0 66\nD 8 0 67\nE 9\n"
+    "D 2 0 65\nR 3 7\nD 4 0 66\nD 9 0 67\nE 10\n"
 
 listing-prints : AsPrinted (listing ∷ [])
 unfolding scriptLines judge judgeFrom decimal lineText
@@ -61,8 +61,8 @@ listing-leaves : scriptStore (listing .script) (replicate 5 0xff) ≡ (0x43 ∷ 
 unfolding scriptStore judge judgeFrom
 listing-leaves = refl
 
--- Request 2.1: a full queue that is read and refilled in one slot, and the same without the first idle slot, where the
--- block is in store and 5 comes as before.
+-- Request 2.1: a full queue that is read and refilled in one slot; and, a case of request 2.5, the same without the
+-- first idle slot, where the block is in store: the arrival is dropped with 5, and the request runs.
 abbrev swapScriptAfter : List ℕ → List ℕ
 swapScriptAfter first =
     0x10 ∷ 0x01 ∷ 0x02 ∷ 0x01 ∷ first
@@ -71,7 +71,7 @@ swapScriptAfter first =
 abbrev swapScripts : List Example
 swapScripts =
     example (swapScriptAfter (0x00 ∷ [])) 2 "D 5 0 65\nE 8\n" ∷
-    example (swapScriptAfter []) 2 "R 2 5\nE 6\n" ∷ []
+    example (swapScriptAfter []) 2 "R 2 5\nD 4 0 65\nE 7\n" ∷ []
 
 swap-scripts-print : AsPrinted swapScripts
 unfolding scriptLines judge judgeFrom decimal lineText
@@ -81,6 +81,35 @@ swap-scripts-print = refl
 swap-leaves : scriptStore (swapScriptAfter (0x00 ∷ [])) (replicate 3 0xff) ≡ (0x42 ∷ 0x43 ∷ 0xff ∷ [])
 unfolding scriptStore judge judgeFrom
 swap-leaves = refl
+
+-- Request 2.5, "each half has its own answer, so both numbers may come together": a stop is the only answer of a slot
+-- whose arrival would be dropped too; and slots that deliver and print 5, 7 or both behind it.
+abbrev halfScripts : List Example
+halfScripts =
+    example
+    (0x10 ∷ 0x01 ∷ 0x01 ∷ 0x01 ∷ 0x01 ∷ 0x00 ∷ 0x41 ∷ 0x03 ∷ 0x00 ∷ 0x42 ∷ 0x01 ∷ 0x05 ∷ [])
+    1
+    "R 1 6\nE 1\n" ∷
+    example
+    (0x10 ∷ 0x02 ∷ 0x02 ∷ 0x01 ∷
+    0x01 ∷ 0x00 ∷ 0x42 ∷
+    0x01 ∷ 0x01 ∷ 0x43 ∷
+    0x01 ∷ 0x01 ∷ 0x44 ∷
+    0x00 ∷
+    0x01 ∷ 0x00 ∷ 0x46 ∷
+    0x01 ∷ 0x00 ∷ 0x47 ∷
+    0x02 ∷ 0x00 ∷
+    0x02 ∷ 0x01 ∷
+    0x02 ∷ 0x01 ∷
+    0x03 ∷ 0x01 ∷ 0x4b ∷ 0x01 ∷
+    0x02 ∷ 0x01 ∷
+    0x05 ∷ [])
+    4
+    "R 5 5\nD 9 0 66\nR 9 5\nR 9 7\nD 10 1 67\nR 10 7\nE 11\n" ∷ []
+
+half-scripts-print : AsPrinted halfScripts
+unfolding scriptLines judge judgeFrom decimal lineText
+half-scripts-print = refl
 
 -- "A script refusal prints only S n offset": an unknown command, operands cut short, a first command other than sizes,
 -- sizes again, bytes that run out where a command is due, bytes that follow the end. "At a command byte 12 comes before
@@ -151,14 +180,15 @@ short-input-writes : scriptStore (writingFor 9) (0xff ∷ []) ≡ (0x41 ∷ [])
 unfolding scriptStore judge judgeFrom
 short-input-writes = refl
 
--- "R t n (slot about to run, refusal) .. E t (slots accepted)": a refused slot has no number, so that t may come again.
+-- "R t n (slot about to run, refusal) .. E t (slots accepted)": a slot that is stopped has no number, so that t may
+-- come again, and a slot that runs without its request has one.
 -- "A 16-bit count, low byte first, of idle slots (0 is none)": 259 and none.
 abbrev counts : List Example
 counts =
     example
-    (0x10 ∷ 0x01 ∷ 0x01 ∷ 0x01 ∷ 0x00 ∷ 0x02 ∷ 0x00 ∷ 0x02 ∷ 0x01 ∷ 0x00 ∷ 0x05 ∷ [])
+    (0x10 ∷ 0x01 ∷ 0x01 ∷ 0x01 ∷ 0x00 ∷ 0x02 ∷ 0x01 ∷ 0x02 ∷ 0x00 ∷ 0x00 ∷ 0x05 ∷ [])
     1
-    "R 1 7\nR 1 6\nE 2\n" ∷
+    "R 1 6\nR 1 7\nE 3\n" ∷
     example
     (0x10 ∷ 0x01 ∷ 0x01 ∷ 0x01 ∷ 0x04 ∷ 0x03 ∷ 0x01 ∷ 0x04 ∷ 0x00 ∷ 0x00 ∷ 0x05 ∷ [])
     1
@@ -185,7 +215,7 @@ operandPlaces =
     0x01 ∷ 0x01 ∷ 0x46 ∷
     0x05 ∷ [])
     6
-    "D 2 2 66\nD 4 0 65\nR 5 4\nR 7 5\nE 7\n" ∷ []
+    "D 2 2 66\nD 4 0 65\nR 5 4\nR 7 5\nE 8\n" ∷ []
 
 operand-places-print : AsPrinted operandPlaces
 unfolding scriptLines judge judgeFrom decimal lineText

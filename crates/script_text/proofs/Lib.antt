@@ -4,6 +4,8 @@
 pub mod Examples
 -- Slots in two parts, and quiet ones.
 pub mod Append
+-- The numbers of dropped halves.
+pub mod HalfNumbers
 -- How much a script can print: the length of a line, what is delivered, what slots and commands pay for, and the bound.
 pub mod Lengths
 pub mod Delivered

@@ -1,15 +1,17 @@
 -- No script prints R t 3, R t 8, R t 9 or R t 10, whatever its bytes are and its store holds (`never-printed`). Its
--- slots are a list of demand 3, where none of these comes, and a script that does not start prints R 0 1 or R 0 2.
+-- slots are a list of demand 3, where none of these comes, a half that is dropped has 5 or 7, and a script that does
+-- not start prints R 0 1 or R 0 2.
 use mathlib.Core.Path.{_≡_, refl, ap}
-use mathlib.Core.List.{List, [], _∷_}
+use mathlib.Core.List.{List, [], _∷_, _++_}
 use mathlib.Core.Option.{Option, some, none}
 use Prim.Native.Nat.{ℕ, zero, suc, _≤_}
 use native.Mathlib.Omega.{arith}
 use lib.Dec.{eqb, ltb}
 use lib.ListN.{length}
 use Rattle.model.specs.Basics.{All}
-use Rattle.model.specs.Sizes.{paperLimits}
-use Rattle.model.specs.State.{Byte}
+use Rattle.model.specs.Sizes.{paper, paperLimits}
+use Rattle.model.specs.State.{Byte, fresh}
+use Rattle.model.specs.Slot.{Reply}
 use Rattle.model.specs.Lists.{Step, accepted}
 use Rattle.model.specs.Demand.{NoMiss, ListMeets}
 use Rattle.model.proofs.basics.Tests.{by-test}
@@ -18,8 +20,10 @@ use Rattle.model.proofs.Demand.{every-list}
 use Rattle.script_commands.specs.Commands as of
 use Rattle.script_commands.specs.Scripts.{Script, judge}
 use Rattle.script_lines.specs.Lines.{Line, delivery, refusal, ending, fault}
-use Rattle.script_text.specs.Run.{mostBytes, slotsOfAll, sizesOf, answerLines, countOn, slotLines}
-use Rattle.script_text.specs.Run.{startNumber, scriptSteps, startedLines, judgedLines, scriptLines}
+use Rattle.script_text.specs.Run.{mostBytes, slotsOfAll, sizesOf, deliveryLines, halfLines, runningLines}
+use Rattle.script_text.specs.Run.{answerLines, countOn, slotLines, startNumber, scriptSteps, startedLines}
+use Rattle.script_text.specs.Run.{judgedLines, scriptLines}
+use Rattle.script_text.proofs.HalfNumbers.{ZeroOr, is-zero, is-it, HalfNumbers, run-halves}
 use Rattle.script_text.proofs.Bound.{start-low, sizes-accepted}
 
 -- A line that is none of these refusals, in whatever slot.
@@ -50,21 +54,47 @@ low-number line low =
     by-refused-with line
     (λ e. omega (arith, low, e)) (λ e. omega (arith, low, e)) (λ e. omega (arith, low, e)) (λ e. omega (arith, low, e))
 
--- The lines of slots of which none was refused so.
-answer-lines : (t n : ℕ) (o : Option Byte) → (n ≡ 3 → ⊥) → (n ≡ 8 → ⊥) → (n ≡ 9 → ⊥) → (n ≡ 10 → ⊥)
-    → All NoneOfThese (answerLines t n o)
-answer-lines t zero none three eight nine ten = tt
-answer-lines t zero (some y) three eight nine ten =
-    (low-number (delivery t (y .queue) (y .value)) (omega arith), tt)
-answer-lines t (suc n) o three eight nine ten = (by-refused-with (refusal t (suc n)) three eight nine ten, tt)
+middle-number : (line : Line) → 4 ≤ refusedWith line → refusedWith line ≤ 7 → NoneOfThese line
+middle-number line least most =
+    by-refused-with line
+    (λ e. omega (arith, least, e)) (λ e. omega (arith, most, e)) (λ e. omega (arith, most, e))
+    (λ e. omega (arith, most, e))
 
-slot-lines : (t : ℕ) (steps : List Step) → All NoMiss steps → All (λ (step : Step). step .reply .number ≡ 3 → ⊥) steps
-    → All NoneOfThese (slotLines t steps)
-slot-lines t [] miss three = tt
-slot-lines t (step ∷ steps) miss three =
-    all-append NoneOfThese (answerLines t (step .reply .number) (step .reply .delivered)) (slotLines (countOn t (step .reply .number)) steps)
-    (answer-lines t (step .reply .number) (step .reply .delivered) (three .0) (miss .0 .not-8) (miss .0 .not-9) (miss .0 .not-10))
-    (slot-lines (countOn t (step .reply .number)) steps (miss .1) (three .1))
+-- The lines of slots of which none was refused so.
+delivery-lines : (t : ℕ) (o : Option Byte) → All NoneOfThese (deliveryLines t o)
+delivery-lines t none = tt
+delivery-lines t (some y) = (low-number (delivery t (y .queue) (y .value)) (omega arith), tt)
+
+-- A half's 5 or 7.
+arrival-lines : (t : ℕ) {n : ℕ} → ZeroOr 5 n → All NoneOfThese (halfLines t n)
+arrival-lines t is-zero = tt
+arrival-lines t is-it = (middle-number (refusal t 5) (omega arith) (omega arith), tt)
+
+request-lines : (t : ℕ) {n : ℕ} → ZeroOr 7 n → All NoneOfThese (halfLines t n)
+request-lines t is-zero = tt
+request-lines t is-it = (middle-number (refusal t 7) (omega arith) (omega arith), tt)
+
+running-lines : (t : ℕ) (r : Reply) → HalfNumbers r → All NoneOfThese (runningLines t r)
+running-lines t r halves =
+    all-append NoneOfThese (deliveryLines t (r .delivered))
+    (halfLines t (r .arrivalNumber) ++ halfLines t (r .requestNumber))
+    (delivery-lines t (r .delivered))
+    (all-append NoneOfThese (halfLines t (r .arrivalNumber)) (halfLines t (r .requestNumber))
+    (arrival-lines t (halves .arrival-5)) (request-lines t (halves .request-7)))
+
+answer-lines : (t : ℕ) (r : Reply) → HalfNumbers r → (r .number ≡ 3 → ⊥) → (r .number ≡ 8 → ⊥)
+    → (r .number ≡ 9 → ⊥) → (r .number ≡ 10 → ⊥) → All NoneOfThese (answerLines t r)
+answer-lines t r halves three eight nine ten = by-test (eqb (r .number) 0)
+    (λ e. rw e (running-lines t r halves))
+    (λ e. rw e (by-refused-with (refusal t (r .number)) three eight nine ten, tt))
+
+slot-lines : (t : ℕ) (steps : List Step) → All (λ (step : Step). HalfNumbers (step .reply)) steps → All NoMiss steps
+    → All (λ (step : Step). step .reply .number ≡ 3 → ⊥) steps → All NoneOfThese (slotLines t steps)
+slot-lines t [] halves miss three = tt
+slot-lines t (step ∷ steps) halves miss three =
+    all-append NoneOfThese (answerLines t (step .reply)) (slotLines (countOn t (step .reply .number)) steps)
+    (answer-lines t (step .reply) (halves .0) (three .0) (miss .0 .not-8) (miss .0 .not-9) (miss .0 .not-10))
+    (slot-lines (countOn t (step .reply .number)) steps (halves .1) (miss .1) (three .1))
 
 -- A script that starts, or not.
 started-lines : (start : ℕ) (cs : List of.Command) (store : List ℕ) → startNumber (sizesOf cs) store ≡ start
@@ -74,7 +104,8 @@ started-lines zero cs store e =
     every-list paperLimits (sizesOf cs) store (slotsOfAll cs) (sizes-accepted (sizesOf cs) store e) in
     let last : Line = ending (length (accepted (scriptSteps cs store))) in
     all-append NoneOfThese (slotLines 0 (scriptSteps cs store)) (last ∷ [])
-    (slot-lines 0 (scriptSteps cs store) (meets .no-miss) (meets .no-3))
+    (slot-lines 0 (scriptSteps cs store) (run-halves paper (fresh paper (sizesOf cs)) store (slotsOfAll cs))
+    (meets .no-miss) (meets .no-3))
     (low-number last (omega arith), tt)
 started-lines (suc n) cs store e = (
   low-number (refusal 0 (suc n)) (omega (arith, e, start-low (sizesOf cs) store)),

@@ -1,4 +1,4 @@
--- A script's bytes pay for its slots (`judged-pays`): a slot that is not idle has a command of two bytes or more, a
+-- A script's bytes pay for its slots (`judged-pays`): a command has two bytes or more for each half of its slot, a
 -- command is at most 65,535 slots, a value that arrives is a byte, and a fault's offset is within the script.
 use mathlib.Core.Path.{_≡_, refl, subst}
 use mathlib.Core.Bool.{Bool, true, false}
@@ -17,7 +17,7 @@ use Rattle.script_commands.specs.Commands as of
 use Rattle.script_commands.specs.Scripts.{Reading, refused, taken, outOfPlace, readKnown, readCode, readCommand, Script}
 use Rattle.script_commands.specs.Scripts.{afterEnd, withCommand, goOn, judgeWithin, judgeFrom, judge}
 use Rattle.script_text.specs.Run.{mostBytes, slotsOf, slotsOfAll}
-use Rattle.script_text.proofs.SlotCharges.{busyOf, ArrivalBelow}
+use Rattle.script_text.proofs.SlotCharges.{halvesOf, ArrivalBelow}
 
 -- A script is bytes.
 abbrev pub Bytes : List ℕ → Type 0
@@ -38,46 +38,46 @@ number-fits zero bytes h = omega arith
 number-fits (suc n) [] h = omega (arith, number-fits n [] tt)
 number-fits (suc n) (x ∷ bytes) h = omega (arith, h .0, number-fits n bytes (h .1))
 
--- Idle slots are not busy, and nothing arrives in them.
-idles-not-busy : (n : ℕ) → busyOf (idles n) ≡ 0
-idles-not-busy zero = refl
-idles-not-busy (suc n) = omega (arith, idles-not-busy n)
+-- Idle slots have no half, so nothing arrives in them.
+idles-without-half : (n : ℕ) → halvesOf (idles n) ≡ 0
+idles-without-half zero = refl
+idles-without-half (suc n) = omega (arith, idles-without-half n)
 
 idles-without-arrival : (n : ℕ) → All (ArrivalBelow 256) (idles n)
 idles-without-arrival zero = tt
 idles-without-arrival (suc n) = (tt, idles-without-arrival n)
 
-busy-append : (xs ys : List Call) → busyOf (xs ++ ys) ≡ busyOf xs + busyOf ys
-busy-append [] ys = omega arith
-busy-append (call ∷ xs) ys = omega (arith, busy-append xs ys)
+halves-append : (xs ys : List Call) → halvesOf (xs ++ ys) ≡ halvesOf xs + halvesOf ys
+halves-append [] ys = omega arith
+halves-append (call ∷ xs) ys = omega (arith, halves-append xs ys)
 
--- A command of n bytes: two for each slot that is not idle, and one is left where it is the end.
+-- A command of n bytes: two for each half, and one is left where it is the end.
 pub record CommandPays (c : of.Command) (n : ℕ) : Type 0 where
-  pub busy-paid : 2 * busyOf (slotsOf c) + choose (of.isEnd (c .kind)) 1 0 ≤ n
+  pub halves-paid : 2 * halvesOf (slotsOf c) + choose (of.isEnd (c .kind)) 1 0 ≤ n
   pub slots-few : length (slotsOf c) ≤ 65_535
   pub values-small : All (ArrivalBelow 256) (slotsOf c)
 
 kind-pays : (k : of.Kind) (bytes : List ℕ) → Bytes bytes
     → CommandPays (of.command k (of.operandsIn (of.row k .operands) bytes)) (1 + of.widths (of.row k .operands))
-kind-pays of.sizes bytes h = record { busy-paid = omega arith; slots-few = omega arith; values-small = tt }
-kind-pays of.idle bytes h = record { busy-paid = omega arith; slots-few = omega arith; values-small = (tt, tt) }
+kind-pays of.sizes bytes h = record { halves-paid = omega arith; slots-few = omega arith; values-small = tt }
+kind-pays of.idle bytes h = record { halves-paid = omega arith; slots-few = omega arith; values-small = (tt, tt) }
 kind-pays of.arrive bytes h = record {
-  busy-paid = omega arith;
+  halves-paid = omega arith;
   slots-few = omega arith;
   values-small = (number-fits 1 (drop 1 bytes) (bytes-dropped 1 bytes h), tt);
 }
-kind-pays of.ask bytes h = record { busy-paid = omega arith; slots-few = omega arith; values-small = (tt, tt) }
+kind-pays of.ask bytes h = record { halves-paid = omega arith; slots-few = omega arith; values-small = (tt, tt) }
 kind-pays of.both bytes h = record {
-  busy-paid = omega arith;
+  halves-paid = omega arith;
   slots-few = omega arith;
   values-small = (number-fits 1 (drop 1 bytes) (bytes-dropped 1 bytes h), tt);
 }
 kind-pays of.idles bytes h = record {
-  busy-paid = omega (arith, idles-not-busy (of.numberIn 2 bytes));
+  halves-paid = omega (arith, idles-without-half (of.numberIn 2 bytes));
   slots-few = omega (arith, length-replicate (of.numberIn 2 bytes) idle, number-fits 2 bytes h);
   values-small = idles-without-arrival (of.numberIn 2 bytes);
 }
-kind-pays of.end bytes h = record { busy-paid = omega arith; slots-few = omega arith; values-small = tt }
+kind-pays of.end bytes h = record { halves-paid = omega arith; slots-few = omega arith; values-small = tt }
 
 -- What the reader answers where these bytes are left: a refusal's number has two digits, and a command that is taken
 -- has a byte or more, and no more than are left.
@@ -114,10 +114,10 @@ reading-says : (first : Bool) (bytes : List ℕ) → Bytes bytes → ReadingSays
 reading-says first [] h = says-refused 15 (omega arith) (omega arith)
 reading-says first (code ∷ bytes) h = code-says first (of.kindOf code) code bytes (h .1)
 
--- The script of n bytes from an offset on, judged: where it is good, its bytes pay for its slots that are not idle, and
+-- The script of n bytes from an offset on, judged: where it is good, its bytes pay for the halves of its slots, and
 -- some are left.
 pub record ScriptPays (left offset n : ℕ) (s : Script) : Type 0 where
-  pub busy-paid : s .number ≡ 0 → 2 * busyOf (slotsOfAll (s .commands)) + left ≤ n
+  pub halves-paid : s .number ≡ 0 → 2 * halvesOf (slotsOfAll (s .commands)) + left ≤ n
   pub slots-few : length (slotsOfAll (s .commands)) ≤ 65_535 * n
   pub values-small : All (ArrivalBelow 256) (slotsOfAll (s .commands))
   pub number-small : s .number < 100
@@ -126,7 +126,7 @@ pub record ScriptPays (left offset n : ℕ) (s : Script) : Type 0 where
 nothing-pays : (left offset n number place : ℕ) → (number ≡ 0 → left ≤ n) → number < 100 → place ≤ offset + n
     → ScriptPays left offset n (record { commands = []; number = number; offset = place })
 nothing-pays left offset n number place f l m = record {
-  busy-paid = λ e. omega (arith, f e);
+  halves-paid = λ e. omega (arith, f e);
   slots-few = omega arith;
   values-small = tt;
   number-small = l;
@@ -143,8 +143,8 @@ command-pays : (c : of.Command) (n m whole left offset : ℕ) (s : Script) → 1
     → ScriptPays left (offset + n) m s
     → ScriptPays (left + choose (of.isEnd (c .kind)) 1 0) offset whole (withCommand c s)
 command-pays c n m whole left offset s l e now later = record {
-  busy-paid = λ z.
-      omega (arith, e, now .busy-paid, later .busy-paid z, busy-append (slotsOf c) (slotsOfAll (s .commands)));
+  halves-paid = λ z.
+      omega (arith, e, now .halves-paid, later .halves-paid z, halves-append (slotsOf c) (slotsOfAll (s .commands)));
   slots-few =
       omega (arith, l, e, now .slots-few, later .slots-few, length-append (slotsOf c) (slotsOfAll (s .commands)));
   values-small =

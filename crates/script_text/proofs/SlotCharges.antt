@@ -1,39 +1,48 @@
--- Slots that are refused and requests that are accepted are together at most the slots that are not idle (`run-pays`):
--- a refused slot is not idle, since an idle one could only be refused with 2, 3, 8 or 10. And what a slot answers and
--- takes lies in its range (`run-says`).
+-- The refusals that slots tell and the requests that they take are together at most the halves of the calls
+-- (`run-pays`). An arrival pays for its 5, a request for its 7 or for being taken. A slot that is stopped tells one
+-- refusal and takes nothing, and it has a half to pay with: an idle one could only be stopped with 2, 3, 8 or 10. And
+-- what a slot answers and takes lies in its range (`run-says`).
 use mathlib.Core.Path.{_≡_, refl, ap, sym, _∙_, subst}
 use mathlib.Core.Bool.{Bool, true, false, not}
 use mathlib.Core.List.{List, [], _∷_}
 use mathlib.Core.Option.{Option, some, none}
-use Prim.Native.Nat.{ℕ, suc, _+_, _≤_, _<_}
+use Prim.Native.Nat.{ℕ, zero, suc, _+_, _≤_, _<_}
 use native.Mathlib.Omega.{arith}
-use lib.Dec.{eqb, ltb}
+use lib.Dec.{ltb}
 use lib.ListN.{length}
 use Rattle.model.specs.Basics.{choose, All, when}
 use Rattle.model.specs.Sizes.{Sizes, Design, storeBytes}
 use Rattle.model.specs.State.{Byte, State, keeps}
 use Rattle.model.specs.Slot.{Call, oldestCell, wrote, queueToRead, arrivalUnknown, arrivalFull, requestUnknown}
-use Rattle.model.specs.Slot.{nothingToTake, leavesUncovered, tailFull, headFull, refusals, refusal, Answer, slot}
+use Rattle.model.specs.Slot.{nothingToTake, leavesUncovered, tailFull, headFull, arrivalTaken, requestDrops}
+use Rattle.model.specs.Slot.{halvesTaken, refusals, refusal, Reply, Answer, slot}
 use Rattle.model.specs.Lists.{Step, stepOf, run, accepted}
-use Rattle.model.proofs.basics.Tests.{by-option, true-not-false}
-use Rattle.model.proofs.basics.FirstRefusal.{first-has}
+use Rattle.model.proofs.basics.AllOf.{_also_}
+use Rattle.model.proofs.basics.Tests.{by-option, by-test, true-not-false}
+use Rattle.model.proofs.basics.FirstRefusal.{first-has, when-le}
 use Rattle.model.proofs.one_slot.Accepted.{RefusedOrAccepted, was-refused, was-accepted, outcome}
 use Rattle.script_text.proofs.Append.{refused-test}
 use Rattle.script_text.proofs.Delivered.{IfAny, one, requested, TakesSmall}
 
--- A slot that is not idle counts 1.
-abbrev pub busy : Option Byte → Option ℕ → ℕ
-busy none request = one request
-busy (some y) request = 1
+-- The halves of a call, its arrival and its request; of a list of calls.
+abbrev pub halves : Call → ℕ
+halves call = one (call .arrival) + one (call .request)
 
-abbrev pub busyOf : List Call → ℕ
-busyOf [] = 0
-busyOf (call ∷ calls) = busy (call .arrival) (call .request) + busyOf calls
+abbrev pub halvesOf : List Call → ℕ
+halvesOf [] = 0
+halvesOf (call ∷ calls) = halves call + halvesOf calls
 
--- The refused slots of a list.
-abbrev pub refusedOf : List Step → ℕ
-refusedOf [] = 0
-refusedOf (step ∷ steps) = choose (eqb (step .reply .number) 0) 0 1 + refusedOf steps
+-- The refusals that a slot tells: each number counts 1, and 0 none.
+abbrev pub told : ℕ → ℕ
+told zero = 0
+told (suc n) = 1
+
+abbrev pub toldBy : Reply → ℕ
+toldBy r = told (r .number) + (told (r .arrivalNumber) + told (r .requestNumber))
+
+abbrev pub toldOf : List Step → ℕ
+toldOf [] = 0
+toldOf (step ∷ steps) = toldBy (step .reply) + toldOf steps
 
 -- None of the refusals that an idle slot could have.
 pub record NoneOfIdle (n : ℕ) : Type 0 where
@@ -56,49 +65,34 @@ module _ (design : Design) (x : State) (store : List ℕ) (call : Call) where
   of-idle true n l f = record { low = l; not-idle = λ a r other. absurd (f other) }
   of-idle false n l f = nothing-judged
 
-  of-busy : (t : Bool) (n : ℕ) → n ≤ 10 → (call .arrival ≡ none → call .request ≡ none → t ≡ false)
+  of-half : (t : Bool) (n : ℕ) → n ≤ 10 → (call .arrival ≡ none → call .request ≡ none → t ≡ false)
       → NumberSays call (when t n)
-  of-busy true n l f = record { low = l; not-idle = λ a r other. absurd (true-not-false true refl (f a r)) }
-  of-busy false n l f = nothing-judged
+  of-half true n l f = record { low = l; not-idle = λ a r other. absurd (true-not-false true refl (f a r)) }
+  of-half false n l f = nothing-judged
+
+  -- What is left of the call: no arrival where none came.
+  abbrev left : Call
+  left = halvesTaken x call
+
+  none-left : call .arrival ≡ none → left .arrival ≡ none
+  none-left a = ap (λ (o : Option Byte). choose (arrivalFull x o (call .request)) none o) a
 
   number-says : NumberSays call (refusal design x store call)
   number-says =
       first-has (NumberSays call) (refusals design x store call) nothing-judged (
-        of-idle (not (keeps design x)) 3 (omega arith) (λ other. other .not-3 refl),
-        (
-          of-idle (ltb (length store) (storeBytes (x .sizes))) 2 (omega arith) (λ other. other .not-2 refl),
-          (
-            of-busy (arrivalUnknown x (call .arrival)) 4 (omega arith) (λ a r. ap (arrivalUnknown x) a),
-            (
-              of-busy (arrivalFull x (call .arrival) (call .request)) 5 (omega arith)
-                  (λ a r. ap (λ (o : Option Byte). arrivalFull x o (call .request)) a),
-              (
-                of-busy (requestUnknown x (call .request)) 6 (omega arith) (λ a r. ap (requestUnknown x) r),
-                (
-                  of-busy (nothingToTake x (call .arrival) (call .request)) 7 (omega arith)
-                      (λ a r. ap (nothingToTake x (call .arrival)) r),
-                  (
-                    of-idle (leavesUncovered (oldestCell (x .cells)) x) 8 (omega arith) (λ other. other .not-8 refl),
-                    (
-                      of-busy (tailFull x (call .arrival) (call .request)) 9 (omega arith)
-                          (λ a r. ap (λ (o : Option Byte). tailFull x o (call .request)) a),
-                      (
-                        of-idle (headFull (wrote x call) (queueToRead (wrote x call))) 10 (omega arith)
-                            (λ other. other .not-10 refl),
-                        tt,
-                      ),
-                    ),
-                  ),
-                ),
-              ),
-            ),
-          ),
-        ),
-      )
+      of-idle (not (keeps design x)) 3 (omega arith) (λ other. other .not-3 refl)
+      also of-idle (ltb (length store) (storeBytes (x .sizes))) 2 (omega arith) (λ other. other .not-2 refl)
+      also of-half (arrivalUnknown x (call .arrival)) 4 (omega arith) (λ a r. ap (arrivalUnknown x) a)
+      also of-half (requestUnknown x (call .request)) 6 (omega arith) (λ a r. ap (requestUnknown x) r)
+      also of-idle (leavesUncovered (oldestCell (x .cells)) x) 8 (omega arith) (λ other. other .not-8 refl)
+      also of-half (tailFull x (left .arrival) (left .request)) 9 (omega arith)
+      (λ a r. ap (λ (o : Option Byte). tailFull x o (left .request)) (none-left a))
+      also of-idle (headFull (wrote x left) (queueToRead (wrote x left))) 10 (omega arith)
+      (λ other. other .not-10 refl)
+      also tt)
 
-  refused-is-busy : (n : ℕ) → refusal design x store call ≡ suc n → NoneOfIdle (suc n)
-      → 1 ≤ busy (call .arrival) (call .request)
-  refused-is-busy n e other =
+  stopped-has-half : (n : ℕ) → refusal design x store call ≡ suc n → NoneOfIdle (suc n) → 1 ≤ halves call
+  stopped-has-half n e other =
       by-option (call .arrival)
       (λ no-arrival. by-option (call .request)
       (λ no-request. absurd (omega (
@@ -109,9 +103,15 @@ module _ (design : Design) (x : State) (store : List ℕ) (call : Call) where
       (λ q asks. rw (no-arrival, asks) (omega arith)))
       (λ y arrives. rw arrives (omega arith))
 
--- What holds of each slot, whether it is refused or accepted: a low number, what it took in its range, the same sizes.
+-- Numbers of two digits at most.
+pub record NumbersLow (r : Reply) : Type 0 where
+  pub number-low : r .number ≤ 10
+  pub arrival-low : r .arrivalNumber ≤ 10
+  pub request-low : r .requestNumber ≤ 10
+
+-- What holds of each slot, whether it is refused or accepted: low numbers, what it took in its range, the same sizes.
 record SlotCharged (values : ℕ) (x : State) (step : Step) : Type 0 where
-  number-low : step .reply .number ≤ 10
+  numbers : NumbersLow (step .reply)
   takes : TakesSmall (x .sizes .Q) values step
   sizes-stay : step .state .sizes ≡ x .sizes
 
@@ -122,30 +122,44 @@ if-any P (some y) h = h y refl
 abbrev pub ArrivalBelow : ℕ → Call → Type 0
 ArrivalBelow values call = IfAny (λ (y : Byte). y .value < values) (call .arrival)
 
+left-below : (values : ℕ) (x : State) (call : Call) → ArrivalBelow values call
+    → ArrivalBelow values (halvesTaken x call)
+left-below values x call h = by-test (arrivalFull x (call .arrival) (call .request))
+    (λ t. rw t tt)
+    (λ t. rw t h)
+
 slot-says : (design : Design) (values : ℕ) (x : State) (store : List ℕ) (call : Call) (a : Answer)
     → RefusedOrAccepted design x store call a → ArrivalBelow values call → SlotCharged values x (stepOf x store call a)
 slot-says design values x store call a (was-refused n e) h = record {
-  number-low = omega (arith, e, number-says design x store call .low);
+  numbers = record {
+    number-low = omega (arith, e, number-says design x store call .low);
+    arrival-low = omega arith;
+    request-low = omega arith;
+  };
   takes = record { queue-below = tt; value-below = tt };
   sizes-stay = refl;
 }
 slot-says design values x store call a (was-accepted f) h = record {
-  number-low = omega arith;
+  numbers = record {
+    number-low = omega arith;
+    arrival-low = when-le 10 (arrivalFull x (call .arrival) (call .request)) 5 (omega arith);
+    request-low = when-le 10 (requestDrops x call) 7 (omega arith);
+  };
   takes = record {
-    queue-below = if-any (λ (q : ℕ). q < x .sizes .Q) (call .request) (f .judged .request-ok);
-    value-below = h;
+    queue-below = if-any (λ (q : ℕ). q < x .sizes .Q) (halvesTaken x call .request) (f .judged .request-ok);
+    value-below = left-below values x call h;
   };
   sizes-stay = refl;
 }
 
 pub run-says : (design : Design) (values : ℕ) (s : Sizes) (x : State) (store : List ℕ) (calls : List Call)
     → x .sizes ≡ s → All (ArrivalBelow values) calls
-    → All (λ (step : Step). (step .reply .number ≤ 10) × TakesSmall (s .Q) values step) (run design x store calls)
+    → All (λ (step : Step). NumbersLow (step .reply) × TakesSmall (s .Q) values step) (run design x store calls)
 run-says design values s x store [] e h = tt
 run-says design values s x store (call ∷ calls) e h =
     let says = slot-says design values x store call (slot design x store call) (outcome design x store call) (h .0) in (
       (
-        says .number-low,
+        says .numbers,
         subst (λ (z : Sizes). TakesSmall (z .Q) values (stepOf x store call (slot design x store call))) e
             (says .takes),
       ),
@@ -153,25 +167,43 @@ run-says design values s x store (call ∷ calls) e h =
           (says .sizes-stay ∙ e) (h .1),
     )
 
--- Refused slots and accepted requests together are at most the slots that are not idle.
-asked-is-busy : (arrival : Option Byte) (request : Option ℕ) → one request ≤ busy arrival request
-asked-is-busy none request = omega arith
-asked-is-busy (some y) none = omega arith
-asked-is-busy (some y) (some q) = omega arith
+-- A half pays for its own line: the arrival for 5, the request for 7, or for being taken.
+told-once : (n : ℕ) → told n ≤ 1
+told-once zero = omega arith
+told-once (suc n) = omega arith
+
+arrival-pays : (x : State) (arrival : Option Byte) (request : Option ℕ)
+    → told (when (arrivalFull x arrival request) 5) ≤ one arrival
+arrival-pays x none request = omega arith
+arrival-pays x (some y) request = told-once (when (arrivalFull x (some y) request) 5)
+
+request-pays : (x : State) (arrival : Option Byte) (request : Option ℕ)
+    → told (when (nothingToTake x arrival request) 7) + one (choose (nothingToTake x arrival request) none request)
+    ≤ one request
+request-pays x arrival none = omega arith
+request-pays x arrival (some q) = by-drop (nothingToTake x arrival (some q))
+  where
+    by-drop : (t : Bool) → told (when t 7) + one (choose t none (some q)) ≤ 1
+    by-drop true = omega arith
+    by-drop false = omega arith
 
 slot-pays : (design : Design) (x : State) (store : List ℕ) (call : Call) (a : Answer)
     → RefusedOrAccepted design x store call a
     → NoneOfIdle (a .reply .number) → (steps : List Step)
-    → refusedOf (stepOf x store call a ∷ steps) + requested (accepted (stepOf x store call a ∷ steps))
-    ≤ busy (call .arrival) (call .request) + (refusedOf steps + requested (accepted steps))
+    → toldOf (stepOf x store call a ∷ steps) + requested (accepted (stepOf x store call a ∷ steps))
+    ≤ halves call + (toldOf steps + requested (accepted steps))
 slot-pays design x store call a (was-refused n e) other steps =
-    rw (refused-test n) (omega (arith, refused-is-busy design x store call n e other))
+    rw (refused-test n) (omega (arith, stopped-has-half design x store call n e other))
 slot-pays design x store call a (was-accepted f) other steps =
-    omega (arith, asked-is-busy (call .arrival) (call .request))
+    omega (
+      arith,
+      arrival-pays x (call .arrival) (call .request),
+      request-pays x (arrivalTaken x call) (call .request),
+    )
 
 pub run-pays : (design : Design) (x : State) (store : List ℕ) (calls : List Call)
     → All (λ (step : Step). NoneOfIdle (step .reply .number)) (run design x store calls)
-    → refusedOf (run design x store calls) + requested (accepted (run design x store calls)) ≤ busyOf calls
+    → toldOf (run design x store calls) + requested (accepted (run design x store calls)) ≤ halvesOf calls
 run-pays design x store [] h = omega arith
 run-pays design x store (call ∷ calls) h =
     omega (

@@ -1,4 +1,5 @@
--- Document 01, "Scripts": what a script does, as the lines that it prints and the store that it leaves.
+-- Document 01, "Scripts", and document 02, 2.5: what a script does, as the lines that it prints and the store that it
+-- leaves.
 use mathlib.Core.List.{List, [], _∷_, _++_}
 use mathlib.Core.Option.{Option, some, none}
 use Prim.Native.Nat.{ℕ, zero, suc, _+_, _*_, min}
@@ -7,7 +8,7 @@ use lib.ListN.{length, getD, replicate}
 use Rattle.model.specs.Basics.{choose, when, firstRefusal}
 use Rattle.model.specs.Sizes.{Sizes, sizes, paper, storeBytes}
 use Rattle.model.specs.State.{Byte, byte, fresh, makingNumber}
-use Rattle.model.specs.Slot.{Call}
+use Rattle.model.specs.Slot.{Call, Reply}
 use Rattle.model.specs.Calls.{idles}
 use Rattle.model.specs.Lists.{Step, lastStore, listOf, accepted}
 use Rattle.script_commands.specs.Commands as of
@@ -44,16 +45,27 @@ abbrev pub sizesOf : List of.Command → Sizes
 sizesOf [] = sizes 0 0 0
 sizesOf (c ∷ cs) = sizes (operand c 0) (operand c 1) (operand c 2)
 
--- The lines of one slot, t slots having been accepted before it: "D t q v (slot, queue, byte), R t n (slot about to
--- run, refusal)"; and how many have been accepted with it.
+-- What a slot delivers, t slots having been accepted before it: "D t q v (slot, queue, byte)".
 abbrev pub deliveryLines : ℕ → Option Byte → List Line
 deliveryLines t none = []
 deliveryLines t (some y) = delivery t (y .queue) (y .value) ∷ []
 
-abbrev pub answerLines : ℕ → ℕ → Option Byte → List Line
-answerLines t zero delivered = deliveryLines t delivered
-answerLines t (suc n) delivered = refusal t (suc n) ∷ []
+-- "R t n (slot about to run, refusal)". Request 2.5: "each half has its own answer": the line of a half that was
+-- dropped, with the slot's own number.
+abbrev pub halfLines : ℕ → ℕ → List Line
+halfLines t zero = []
+halfLines t (suc n) = refusal t (suc n) ∷ []
 
+-- The lines of a slot that runs: "A slot's D line comes before its R lines, 5 before 7."
+abbrev pub runningLines : ℕ → Reply → List Line
+runningLines t r =
+    deliveryLines t (r .delivered) ++ (halfLines t (r .arrivalNumber) ++ halfLines t (r .requestNumber))
+
+-- The lines of one slot. A refusal that stops the slot "is then its only answer".
+abbrev pub answerLines : ℕ → Reply → List Line
+answerLines t r = choose (eqb (r .number) 0) (runningLines t r) (refusal t (r .number) ∷ [])
+
+-- How many have been accepted with it. A slot that runs without a half counts: "The slot runs without that half".
 abbrev pub countOn : ℕ → ℕ → ℕ
 countOn t zero = suc t
 countOn t (suc n) = t
@@ -62,7 +74,7 @@ countOn t (suc n) = t
 abbrev pub slotLines : ℕ → List Step → List Line
 slotLines t [] = []
 slotLines t (step ∷ steps) =
-    answerLines t (step .reply .number) (step .reply .delivered) ++ slotLines (countOn t (step .reply .number)) steps
+    answerLines t (step .reply) ++ slotLines (countOn t (step .reply .number)) steps
 
 -- All lines of a list of slots: "last E t (slots accepted)"; "The E count is the length of the defined run".
 abbrev pub listLines : List Step → List Line

@@ -1,12 +1,13 @@
 -- What is decided of a slot in place, or judged of every slot, is the number of the slot itself, whatever bytes the store
 -- holds.
-use mathlib.Core.Path.{_≡_, refl, ap, sym, _∙_}
+use mathlib.Core.Path.{_≡_, ap, sym, _∙_}
 use mathlib.Core.List.{List}
-use Prim.Native.Nat.{ℕ, zero, suc}
+use Prim.Native.Nat.{ℕ}
 use lib.ListN.{length, replicate, length-replicate}
 use Rattle.model.specs.Sizes.{paper}
 use Rattle.model.specs.State.{State}
-use Rattle.model.specs.Slot.{Call, Answer, answer, slot, refusal}
+use Rattle.model.specs.Slot.{Call, Answer}
+use Rattle.model.proofs.one_slot.Accepted.{refusal-told}
 use Rattle.layout.specs.declared.Regs.{Regs}
 use Rattle.layout.specs.Counts.{ByQueue, byQueue}
 use Rattle.layout.specs.Figures.{figuresIn}
@@ -20,19 +21,13 @@ use Rattle.slot_in_place.proofs.Deciding as deciding
 use Rattle.slot_checked.specs.Says.{stateNumber, JudgeStateSays, PlanCheckedSays}
 use Rattle.slot_checked.proofs.Clearing.{ready-judged}
 
-pub slot-number : (x : State) (store : List ℕ) (call : Call)
-    → slot paper x store call .reply .number ≡ refusal paper x store call
-slot-number x store call = go (refusal paper x store call)
-  where
-    go : (n : ℕ) → answer n x store call .reply .number ≡ n
-    go zero = refl
-    go (suc n) = refl
-
 pub plan-refused : {x : State} {bytes number : ℕ} (call : Call) {r : Plan} → JudgeStateSays x bytes number
     → (number ≡ 0 → ⊥) → r .number ≡ number → PlanCheckedSays x bytes call r
 plan-refused call says f e = record {
   number-is = λ store l. e ∙ sym (ap (λ (a : Answer). a .reply .number) (says .refused f store call l));
   decided = λ z. absurd (f (sym e ∙ z));
+  left-is = λ z. absurd (f (sym e ∙ z));
+  carries = λ z. absurd (f (sym e ∙ z));
 }
 
 module _ (regs : Regs) (m : Arrays) (long : Long m) (bytes : ℕ) {r : RulesJudged}
@@ -55,6 +50,8 @@ module _ (regs : Regs) (m : Arrays) (long : Long m) (bytes : ℕ) {r : RulesJudg
       → PlanCheckedSays (stateIn regs m) bytes call p
   plan-decided call plan = record {
     number-is = λ store l.
-        deciding.number-is (ready store l) call plan ∙ sym (slot-number (stateIn regs m) store call);
+        deciding.number-is (ready store l) call plan ∙ sym (refusal-told paper (stateIn regs m) store call);
     decided = λ z store l. deciding.decided (ready store l) call plan z;
+    left-is = λ z. deciding.left-is ready-with-some call plan z;
+    carries = λ z store l. deciding.carries (ready store l) call plan z;
   }

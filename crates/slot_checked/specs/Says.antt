@@ -8,8 +8,8 @@ use lib.ListN.{length}
 use Rattle.model.specs.Basics.{when, firstRefusal}
 use Rattle.model.specs.Sizes.{Sizes, paper, storeBytes}
 use Rattle.model.specs.State.{State, keeps}
-use Rattle.model.specs.Slot.{Call, refuse, slot}
-use Rattle.layout.specs.Calls.{chosenIn}
+use Rattle.model.specs.Slot.{Call, halvesTaken, refuse, carriedOut, slot}
+use Rattle.layout.specs.Calls.{chosenIn, callIn}
 use Rattle.layout.specs.Counts.{ByQueue, Tallies}
 use Rattle.layout.specs.declared.Regs.{Regs}
 use Rattle.layout.specs.Views.{Arrays, sizesIn, stateIn}
@@ -45,8 +45,14 @@ pub record LeaveSays (regs : Regs) (m : Arrays) (counts : ByQueue) (store : List
   pub counts-are : CountsSay (stateIn regs m) (stateIn regs′ m′) counts counts′
 
 -- What a slot will do, of any state and any store of so many bytes: the number that it answers, and where that is 0 all
--- that is decided of it. No byte of the store has a say in it.
+-- that is decided of it, and that the slot is what is carried out of the halves that it takes. No byte of the store has
+-- a say in it.
 pub record PlanCheckedSays (x : State) (bytes : ℕ) (call : Call) (r : Plan) : Type 0 where
   pub number-is : (store : List ℕ) → length store ≡ bytes → r .number ≡ slot paper x store call .reply .number
   pub decided : r .number ≡ 0 → (store : List ℕ) → length store ≡ bytes
-      → Decided x store call (r .owes) (r .swaps) (chosenIn (r .written)) (chosenIn (r .read))
+      → Decided x store (callIn (r .arrival) (r .request)) (r .owes) (r .swaps) (chosenIn (r .written))
+      (chosenIn (r .read))
+  pub left-is : r .number ≡ 0 → callIn (r .arrival) (r .request) ≡ halvesTaken x call
+  pub carries : r .number ≡ 0 → (store : List ℕ) → length store ≡ bytes
+      → carriedOut (r .«arrival_number») (r .«request_number») x store (callIn (r .arrival) (r .request))
+      ≡ slot paper x store call

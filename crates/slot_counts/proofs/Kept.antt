@@ -11,7 +11,7 @@ use lib.ListN.{length, drop}
 use borrow.Author.Tests.{eqb-true}
 use Rattle.model.specs.Sizes.{paper}
 use Rattle.model.specs.State.{Byte, State, countOf, owes, ringOf, tailBytes}
-use Rattle.model.specs.Slot.{Call, arriving, isOwed, oldestCell, youngestCell, tailLeft, tailWritten, refusal, accept}
+use Rattle.model.specs.Slot.{Call, arriving, isOwed, oldestCell, youngestCell, tailLeft, tailWritten, carriedOut}
 use Rattle.model.specs.Slot.{swaps, earlyArrival, lateArrival, blockAt, headRead, joined, asked, wrote, wroteStore}
 use Rattle.model.specs.Slot.{queueToWrite, queueToRead}
 use Rattle.model.proofs.basics.Tests.{by-test, some-inj}
@@ -19,7 +19,7 @@ use Rattle.model.proofs.basics.Bytes.{count-append, count-without, count-refill
 use Rattle.model.proofs.basics.Cells.{owed-append}
 use Rattle.model.proofs.one_slot.StepsKeepRules.{owed-oldest, count-head-without, youngest-owed, youngest-held}
 use Rattle.model.proofs.one_slot.Swap.{swap-facts, early-is-none, early-is, late-is, late-is-none}
-use Rattle.model.proofs.one_slot.Accepted.{accepted-facts}
+use Rattle.model.proofs.one_slot.Accepted.{Judged}
 use Rattle.model.proofs.one_slot.Kept.{block-whole}
 use Rattle.layout.specs.Entries.{countsIn}
 use Rattle.layout.specs.Counts.{ByQueue, Tally, TallyOwed, Tallies}
@@ -115,7 +115,7 @@ tails-found x call {isOwed′} owed-is {tails} same =
           subst (λ (i : ℕ). 1 ≤ tailBytes x i) (some-inj (s .comes .queue) p (sym (s .request-is) ∙ e)) (s .byte-there),
         )
 
-module _ (x : State) (store : List ℕ) (call : Call) (accepted : refusal paper x store call ≡ 0)
+module _ (x : State) (store : List ℕ) (call : Call) (judged : Judged paper x store call)
     {counts counts′ : ByQueue} (t : Tallies x counts)
     {isOwed′ : Bool} (owed-is : (q : ℕ) → call .request ≡ some q → isOwed′ ≡ isOwed (joined x call) q)
     {written readQueue : Option ℕ} (written-is : written ≡ queueToWrite (asked x call))
@@ -148,7 +148,7 @@ module _ (x : State) (store : List ℕ) (call : Call) (accepted : refusal paper 
         ∙ ap (λ (f : ℕ → ℕ). withBlock (x .sizes .b) readQueue f q) heads-found
         ∙ ap (λ (o : Option ℕ). withBlock (x .sizes .b) o (λ p. countOf p (wrote x call .head)) q) read-is
         ∙ count-read (wrote x call) (wroteStore x store call) (queueToRead (wrote x call))
-        (block-whole paper x store call (omega arith) (accepted-facts paper x store call accepted .judged)) q;
+        (block-whole paper x store call (omega arith) judged) q;
   }
 
   owed-kept : TallyOwed (counts′ .owing) (asked x call .cells)
@@ -164,5 +164,5 @@ module _ (x : State) (store : List ℕ) (call : Call) (accepted : refusal paper 
     );
   }
 
-  pub tallies-kept : Tallies (accept x store call .state) counts′
+  pub tallies-kept : Tallies (carriedOut 0 0 x store call .state) counts′
   tallies-kept = record { tails-are = tails-kept; heads-are = heads-kept; owed-are = owed-kept }

@@ -15,7 +15,7 @@ use Rattle.model.specs.State.{Byte, Cell, owed, Ring, ring, State, countOf, hea
 use Rattle.model.specs.Slot.{Call, oldestCell, headWithout, deliveryOf, delivery, arriving, tailLeft, leavesUncovered}
 use Rattle.model.specs.Slot.{earlyArrival, lateArrival}
 use Rattle.model.specs.Slot.{moves, tailWritten, ringsWritten, storeWritten, queueToRead, headRead, headFull}
-use Rattle.model.specs.Slot.{ringsRead, joined, asked, wrote, wroteStore, refilled, accept}
+use Rattle.model.specs.Slot.{ringsRead, joined, asked, wrote, wroteStore, refilled, carriedOut}
 use Rattle.model.proofs.basics.Rings.{fewer-blocks}
 use Rattle.model.proofs.one_slot.Rules.{Rules}
 use Rattle.model.proofs.one_slot.Accepted.{Judged, Accepted, accepted-facts}
@@ -56,7 +56,7 @@ module _ (regs : Regs) (m : Arrays) {store : List ℕ} {call : Call} {isOwed′ 
   l = lookahead (sizesIn regs)
 
   accepted : Accepted paper x store call
-  accepted = accepted-facts paper x store call (d .accepted)
+  accepted = subst (Accepted paper x store) (d .all-taken) (accepted-facts paper x store call (d .accepted))
 
   pub judged : Judged paper x store call
   judged = accepted .judged
@@ -324,7 +324,7 @@ module _ (regs : Regs) (m : Arrays) {store : List ℕ} {call : Call} {isOwed′ 
                         «last_asked» = regs .«last_asked»;
                       })
                       (arrays tail₃ head₂ cells₁ firsts₁ stored₂)
-                      ≡ accept x store call .state
+                      ≡ carriedOut 0 0 x store call .state
                   state-after ep ej et fj fh =
                       same-state (sizesIn regs) ep tail-3 head-2 cells-1 rings-2
                       (omega (arith, ej, fj, asked-no-longer x call (judged .covered)))

@@ -12,18 +12,19 @@ use Rattle.model.specs.Sizes.{paper, lookahead}
 use Rattle.model.specs.State.{Byte, Cell, owed, State, countOf, owes, owedOf}
 use Rattle.model.specs.Slot.{Call, oldestCell, arriving, isOwed, swaps, earlyArrival, joined, asked, wrote}
 use Rattle.model.specs.Slot.{queueToWrite}
-use Rattle.model.specs.Slot.{queueToRead, refusal, accept}
+use Rattle.model.specs.Slot.{queueToRead, halvesTaken, refusal, carriedOut, accept, answer, slot}
 use Rattle.model.proofs.basics.Tests.{eqb-same}
 use Rattle.model.proofs.basics.Bytes.{count-append}
 use Rattle.model.proofs.basics.Cells.{owed-below}
 use Rattle.model.proofs.one_slot.StepsKeepRules.{owed-oldest}
 use Rattle.model.proofs.one_slot.Swap.{early-few}
-use Rattle.model.proofs.one_slot.Accepted.{Judged, accepted-facts}
+use Rattle.model.proofs.one_slot.Halves.{left-once}
+use Rattle.model.proofs.one_slot.Accepted.{Judged, accepted-facts, left-accepted}
 use Rattle.model.proofs.one_slot.Kept.{read-taken, rules-written}
 use Rattle.model.proofs.delay.IdealSlot.{held-before}
 use Rattle.layout.specs.Lengths.{queuePlaces}
 use Rattle.layout.specs.Entries.{countsIn, cellOf}
-use Rattle.layout.specs.Calls.{chosenIn}
+use Rattle.layout.specs.Calls.{chosenIn, callIn}
 use Rattle.layout.specs.declared.Regs.{Regs}
 use Rattle.layout.specs.Views.{Arrays, stateIn}
 use Rattle.layout.specs.Figures.{Figures, figuresOf, figuresIn}
@@ -33,7 +34,8 @@ use Rattle.slot_counts.proofs.Kept.{tails-found, tallies-kept}
 use Rattle.slot_plan.specs.declared.Plan.{Plan}
 use Rattle.slot_plan.specs.Says.{writeNow, PlanSays}
 use Rattle.slot_plan.proofs.Writes.{write-has-block}
-use Rattle.slot_plan.proofs.PaperPlan.{plan-refusal, plan-owes, plan-swaps, plan-written, plan-read}
+use Rattle.slot_plan.proofs.PaperPlan.{plan-refusal, plan-left, plan-arrival-number, plan-request-number, plan-owes}
+use Rattle.slot_plan.proofs.PaperPlan.{plan-swaps, plan-written, plan-read}
 use Rattle.slot_steps.proofs.Moving.{oldest-cell}
 use Rattle.slot_in_place.specs.Says.{Decided, Ready}
 use Rattle.slot_in_place.proofs.Compose.{uncovered-owed}
@@ -64,23 +66,49 @@ module _ {regs : Regs} {m : Arrays} {counts : ByQueue} {store : List ℕ} (r : R
       number-is = by-figures .number-is ∙ plan-refusal x store call (r .kept) (r .store-long)
 
       module _ (none : plan .number ≡ 0) where
-        pub accepted : refusal paper x store call ≡ 0
+        accepted : refusal paper x store call ≡ 0
         accepted = sym number-is ∙ none
 
-        pub owed-is : (q : ℕ) → call .request ≡ some q → plan .owes ≡ isOwed (joined x call) q
-        owed-is q s = by-figures .owes-is none ∙ plan-owes x store call accepted q s
+        -- What is left of the call, and the numbers of what is not.
+        abbrev left : Call
+        left = halvesTaken x call
 
-        pub swaps-is : plan .swaps ≡ swaps x (call .arrival) (call .request)
-        swaps-is = by-figures .swaps-is none ∙ plan-swaps x store call (r .kept)
+        pub left-is : callIn (plan .arrival) (plan .request) ≡ left
+        left-is = by-figures .left-is none ∙ plan-left x store call (r .kept) accepted
 
-        pub read-is : chosenIn (plan .read) ≡ queueToRead (wrote x call)
-        read-is = by-figures .read-is none ∙ plan-read x store call accepted
+        pub halves-told :
+            (plan .«arrival_number» ≡ accept x store call .reply .arrivalNumber)
+            × (plan .«request_number» ≡ accept x store call .reply .requestNumber)
+        halves-told = (
+          by-figures .arrival-number-is none ∙ plan-arrival-number x store call (r .kept) accepted,
+          by-figures .request-number-is none ∙ plan-request-number x store call (r .kept) accepted,
+        )
 
-        pub written-is : chosenIn (plan .written) ≡ queueToWrite (asked x call)
-        written-is = by-figures .written-is none ∙ plan-written x store call accepted
+        owed-is : (q : ℕ) → left .request ≡ some q → plan .owes ≡ isOwed (joined x left) q
+        owed-is q s = by-figures .owes-is none ∙ plan-owes x store call (r .kept) accepted q s
 
-        judged : Judged paper x store call
+        swaps-is : plan .swaps ≡ swaps x (left .arrival) (left .request)
+        swaps-is = by-figures .swaps-is none ∙ plan-swaps x store call (r .kept) accepted
+
+        read-is : chosenIn (plan .read) ≡ queueToRead (wrote x left)
+        read-is = by-figures .read-is none ∙ plan-read x store call (r .kept) accepted
+
+        written-is : chosenIn (plan .written) ≡ queueToWrite (asked x left)
+        written-is = by-figures .written-is none ∙ plan-written x store call (r .kept) accepted
+
+        judged : Judged paper x store left
         judged = accepted-facts paper x store call accepted .judged
+
+        decided-left : Decided x store left (plan .owes) (plan .swaps) (chosenIn (plan .written))
+            (chosenIn (plan .read))
+        decided-left = record {
+          all-taken = left-once x call;
+          accepted = left-accepted paper x store call accepted;
+          owed-is = owed-is;
+          swaps-is = swaps-is;
+          written-is = written-is;
+          read-is = read-is;
+        }
 
         -- What the counts are asked for.
         pub leaving-there : (q : ℕ) → cellOf (getD (m .cells) 0 0) ≡ owed q
@@ -108,32 +136,32 @@ module _ {regs : Regs} {m : Arrays} {counts : ByQueue} {store : List ℕ} (r : R
             below : q < regs .queues
             below = owed-below (regs .queues) (x .cells) q (judged .kept .within .cells-below) there
 
-        pub arrival-there : (y : Byte) → call .arrival ≡ some y → y .queue < queuePlaces
+        arrival-there : (y : Byte) → left .arrival ≡ some y → y .queue < queuePlaces
         arrival-there y s =
             omega (arith, judged .arrival-known y s, standing.limits r .q-high)
 
-        pub request-there : (q : ℕ) → call .request ≡ some q → q < queuePlaces
+        request-there : (q : ℕ) → left .request ≡ some q → q < queuePlaces
         request-there q s =
             omega (arith, judged .request-ok q s, standing.limits r .q-high)
 
-        pub byte-there : (q : ℕ) → call .request ≡ some q → plan .owes ≡ false
-            → 1 ≤ countsIn (counts .tails) q + countOf q (arriving (call .arrival))
+        byte-there : (q : ℕ) → left .request ≡ some q → plan .owes ≡ false
+            → 1 ≤ countsIn (counts .tails) q + countOf q (arriving (left .arrival))
         byte-there q s f =
             omega (
               arith,
               judged .byte-there q s
-                  (held-before paper x store call (omega arith) judged q (sym (owed-is q s) ∙ f)),
-              count-append q (x .tail) (arriving (earlyArrival x call)),
-              early-few x call q,
+                  (held-before paper x store left (omega arith) judged q (sym (owed-is q s) ∙ f)),
+              count-append q (x .tail) (arriving (earlyArrival x left)),
+              early-few x left q,
               r .tallies .tails-are .count-is q,
             )
 
         -- The tail bytes that the write finds are the counted ones.
-        pub block-there : (q : ℕ) → chosenIn (plan .written) ≡ some q
-            → (q < queuePlaces) × (regs .block ≤ tailsAsked (plan .owes) call (countsIn (counts .tails)) q)
+        block-there : (q : ℕ) → chosenIn (plan .written) ≡ some q
+            → (q < queuePlaces) × (regs .block ≤ tailsAsked (plan .owes) left (countsIn (counts .tails)) q)
         block-there q e =
-            let has = write-has-block (x .phase) (x .sizes) (tailsAsked (plan .owes) call (countsIn (counts .tails))) q
-            (ap (writeNow (x .phase) (x .sizes)) (tails-found x call owed-is (r .tallies .tails-are .count-is))
+            let has = write-has-block (x .phase) (x .sizes) (tailsAsked (plan .owes) left (countsIn (counts .tails))) q
+            (ap (writeNow (x .phase) (x .sizes)) (tails-found x left owed-is (r .tallies .tails-are .count-is))
             ∙ sym written-is ∙ e) in
             (omega (arith, has .0, standing.limits r .q-high), has .1)
 
@@ -141,26 +169,56 @@ module _ {regs : Regs} {m : Arrays} {counts : ByQueue} {store : List ℕ} (r : R
         read-there q e =
             omega (
               arith,
-              read-taken (lookahead (x .sizes)) (wrote x call) (rules-written paper x store call (omega arith) judged) q
+              read-taken (lookahead (x .sizes)) (wrote x left) (rules-written paper x store left (omega arith) judged) q
                   (sym read-is ∙ e) .0,
               standing.limits r .q-high,
             )
 
-        pub decided : Decided x store call (plan .owes) (plan .swaps) (chosenIn (plan .written)) (chosenIn (plan .read))
-        decided = record {
-          accepted = accepted;
-          owed-is = owed-is;
-          swaps-is = swaps-is;
-          written-is = written-is;
-          read-is = read-is;
-        }
+        -- The same of the halves as the plan has them.
+        abbrev taken : Call
+        taken = callIn (plan .arrival) (plan .request)
+
+        pub halves-there :
+            ((y : Byte) → taken .arrival ≡ some y → y .queue < queuePlaces)
+            × ((q : ℕ) → taken .request ≡ some q → q < queuePlaces)
+            × ((q : ℕ) → taken .request ≡ some q → plan .owes ≡ false
+            → 1 ≤ countsIn (counts .tails) q + countOf q (arriving (taken .arrival)))
+            × ((q : ℕ) → chosenIn (plan .written) ≡ some q
+            → (q < queuePlaces) × (regs .block ≤ tailsAsked (plan .owes) taken (countsIn (counts .tails)) q))
+        halves-there =
+            subst (λ (c : Call).
+            ((y : Byte) → c .arrival ≡ some y → y .queue < queuePlaces)
+            × ((q : ℕ) → c .request ≡ some q → q < queuePlaces)
+            × ((q : ℕ) → c .request ≡ some q → plan .owes ≡ false
+            → 1 ≤ countsIn (counts .tails) q + countOf q (arriving (c .arrival)))
+            × ((q : ℕ) → chosenIn (plan .written) ≡ some q
+            → (q < queuePlaces) × (regs .block ≤ tailsAsked (plan .owes) c (countsIn (counts .tails)) q)))
+            (sym left-is) (arrival-there, request-there, byte-there, block-there)
+
+        pub decided : Decided x store taken (plan .owes) (plan .swaps) (chosenIn (plan .written))
+            (chosenIn (plan .read))
+        decided =
+            subst (λ (c : Call). Decided x store c (plan .owes) (plan .swaps) (chosenIn (plan .written))
+            (chosenIn (plan .read))) (sym left-is) decided-left
+
+        -- The slot is what is carried out of them.
+        pub carries : carriedOut (plan .«arrival_number») (plan .«request_number») x store taken
+            ≡ slot paper x store call
+        carries =
+            ap (carriedOut (plan .«arrival_number») (plan .«request_number») x store) left-is
+            ∙ ap (λ (n : ℕ). carriedOut n (plan .«request_number») x store left) (halves-told .0)
+            ∙ ap (λ (n : ℕ). carriedOut (accept x store call .reply .arrivalNumber) n x store left) (halves-told .1)
+            ∙ ap (λ (n : ℕ). answer n x store call) (sym accepted)
 
         -- The counts, turned, are those of the state that the slot leaves.
         pub counted : {counts′ : ByQueue}
-            → TurnSays (x .sizes) (cellOf (getD (m .cells) 0 0)) call (plan .owes) (chosenIn (plan .written))
+            → TurnSays (x .sizes) (cellOf (getD (m .cells) 0 0)) taken (plan .owes) (chosenIn (plan .written))
             (chosenIn (plan .read)) counts counts′
-            → Tallies (accept x store call .state) counts′
+            → Tallies (carriedOut 0 0 x store taken .state) counts′
         counted {counts′} turned =
-            tallies-kept x store call accepted (r .tallies) owed-is written-is read-is
-            (subst (λ (c : Cell). TurnSays (x .sizes) c call (plan .owes) (chosenIn (plan .written))
-            (chosenIn (plan .read)) counts counts′) (sym oldest) turned)
+            subst (λ (c : Call). Tallies (carriedOut 0 0 x store c .state) counts′) (sym left-is)
+            (tallies-kept x store left judged (r .tallies) owed-is written-is read-is
+            (subst (λ (c : Cell). TurnSays (x .sizes) c left (plan .owes) (chosenIn (plan .written))
+            (chosenIn (plan .read)) counts counts′) (sym oldest)
+            (subst (λ (c : Call). TurnSays (x .sizes) (cellOf (getD (m .cells) 0 0)) c (plan .owes)
+            (chosenIn (plan .written)) (chosenIn (plan .read)) counts counts′) left-is turned)))

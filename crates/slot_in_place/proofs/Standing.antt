@@ -1,8 +1,9 @@
 -- A state that is ready for a slot: its counts are its figures, its fills lie in their arrays, and what an accepted
 -- slot leaves is ready again.
 use mathlib.Core.Path.{_≡_, refl, ap, sym, _∙_, subst, fun-ext}
-use mathlib.Core.Bool.{true}
+use mathlib.Core.Bool.{Bool, true}
 use mathlib.Core.List.{List}
+use mathlib.Core.Option.{Option}
 use Prim.Native.Nat.{ℕ, zero, suc, _<_, _≤_}
 use native.Mathlib.Omega.{arith}
 use lib.Dec.{ltb}
@@ -11,12 +12,12 @@ use borrow.Author.Tests.{ltb-true, ltb-false}
 use Rattle.model.specs.Basics.{allOf}
 use Rattle.model.specs.Sizes.{paper, lookahead, storeBytes}
 use Rattle.model.specs.State.{Ring, State, blocks, ringOf, cellBelow}
-use Rattle.model.specs.Slot.{Call, refusal, Reply, numberAlone, Answer, accept, answer, slot}
+use Rattle.model.specs.Slot.{Call, refusal, Reply, numberAlone, Answer, carriedOut, answer, slot}
 use Rattle.model.proofs.basics.Tests.{by-test}
 use Rattle.model.proofs.basics.Cells.{cells-below-holds}
 use Rattle.model.proofs.one_slot.Rules.{Keeps, keeps-facts, keeps-holds}
-use Rattle.model.proofs.one_slot.Accepted.{accepted-facts}
-use Rattle.model.proofs.one_slot.Kept.{Kept, accept-kept}
+use Rattle.model.proofs.one_slot.Accepted.{Accepted, accepted-facts}
+use Rattle.model.proofs.one_slot.Kept.{Kept, carried-kept}
 use Rattle.model.proofs.one_slot.Calls.{answer-is}
 use Rattle.layout.specs.Lengths.{tailPlaces, headPlaces, cellPlaces, queuePlaces}
 use Rattle.layout.specs.Entries.{countsIn}
@@ -31,7 +32,7 @@ use Rattle.layout.proofs.Fits.{tail-in-array, head-in-array, tail-length, head-
 use Rattle.layout.proofs.Ranges.{InLimits, in-limits}
 use Rattle.layout.proofs.Rings.{ring-at, ring-past}
 use Rattle.slot_in_place.specs.declared.Carried.{Carried}
-use Rattle.slot_in_place.specs.Says.{CarrySays, Ready}
+use Rattle.slot_in_place.specs.Says.{Decided, CarrySays, Ready}
 
 -- The blocks of each queue, past the last queue too.
 blocks-are : (n : ℕ) (firsts stored : List ℕ) (q : ℕ)
@@ -111,14 +112,17 @@ module _ {regs : Regs} {m : Arrays} {counts : ByQueue} {store : List ℕ} (r : R
           ap (λ (k : Reply). record { reply = k; state = x; store = store }) t
           ∙ ap (λ (k : ℕ). answer k x store call) e
 
-      -- What an accepted slot leaves is ready.
-      module _ (accepted : refusal paper x store call ≡ 0) where
-        left : Kept paper x store (accept x store call)
-        left = accept-kept paper x store call (omega arith) (accepted-facts paper x store call accepted)
+      -- What is carried out of a call of which no half drops leaves a state that is ready, and is the slot's answer.
+      module _ {isOwed′ swaps′ : Bool} {written readQueue : Option ℕ}
+          (d : Decided x store call isOwed′ swaps′ written readQueue) where
+        left : Kept paper x store (carriedOut 0 0 x store call)
+        left =
+            carried-kept paper x store call (omega arith)
+            (subst (Accepted paper x store) (d .all-taken) (accepted-facts paper x store call (d .accepted)))
 
         pub carried-ready : {c : Carried} {m′ : Arrays} {counts′ : ByQueue} {store′ : List ℕ}
             → CarrySays x store call c m′ store′
-            → Tallies (accept x store call .state) counts′
+            → Tallies (carriedOut 0 0 x store call .state) counts′
             → Ready (c .regs) m′ counts′ store′
         carried-ready {c} {m′} {counts′} {store′} s t = record {
           long = s .long;
@@ -129,12 +133,11 @@ module _ {regs : Regs} {m : Arrays} {counts : ByQueue} {store : List ℕ} (r : R
               (omega (arith, r .store-long, ap length (s .store-is), left .same-length));
         }
 
-        pub accepted-slot : {c : Carried} {m′ : Arrays} {store′ : List ℕ} {a : Answer}
+        pub carried-answer : {c : Carried} {m′ : Arrays} {store′ : List ℕ} {a : Answer} (i j : ℕ)
             → CarrySays x store call c m′ store′
-            → a .reply ≡ accept x store call .reply
+            → a .reply ≡ carriedOut i j x store call .reply
             → a .state ≡ stateIn (c .regs) m′
             → a .store ≡ store′
-            → a ≡ slot paper x store call
-        accepted-slot {a = a} s e₁ e₂ e₃ =
-            answer-is (accept x store call) a e₁ (e₂ ∙ s .state-is) (e₃ ∙ s .store-is)
-            ∙ ap (λ (k : ℕ). answer k x store call) (sym accepted)
+            → a ≡ carriedOut i j x store call
+        carried-answer {a = a} i j s e₁ e₂ e₃ =
+            answer-is (carriedOut i j x store call) a e₁ (e₂ ∙ s .state-is) (e₃ ∙ s .store-is)

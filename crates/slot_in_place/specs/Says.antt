@@ -8,7 +8,7 @@ use lib.ListN.{length}
 use Rattle.model.specs.Sizes.{paper, storeBytes}
 use Rattle.model.specs.State.{State, keeps}
 use Rattle.model.specs.Slot.{Call, delivery, isOwed, swaps, joined, asked, wrote, wroteStore, queueToWrite}
-use Rattle.model.specs.Slot.{queueToRead, refusal, Answer, accept, slot}
+use Rattle.model.specs.Slot.{queueToRead, halvesTaken, refusal, Answer, carriedOut, slot}
 use Rattle.layout.specs.Calls.{deliveryIn, replyIn}
 use Rattle.layout.specs.declared.Regs.{Regs}
 use Rattle.layout.specs.Views.{Arrays, Long, stateIn, sizesIn}
@@ -16,20 +16,21 @@ use Rattle.layout.specs.Counts.{ByQueue, Tallies}
 use Rattle.slot_in_place.specs.declared.Carried.{Carried}
 use Rattle.slot_in_place.specs.declared.Advanced.{Advanced}
 
--- What is decided before anything moves: the slot is accepted, whether its request takes an Owed cell, whether it takes
--- its request before its arrival, the queues that it writes and reads.
+-- What is decided before anything moves, of a call of which no half drops: the slot is accepted, whether its request
+-- takes an Owed cell, whether it takes its request before its arrival, the queues that it writes and reads.
 pub record Decided (x : State) (store : List ℕ) (call : Call) (isOwed′ swaps′ : Bool) (written readQueue : Option ℕ)
     : Type 0 where
+  pub all-taken : halvesTaken x call ≡ call
   pub accepted : refusal paper x store call ≡ 0
   pub owed-is : (q : ℕ) → call .request ≡ some q → isOwed′ ≡ isOwed (joined x call) q
   pub swaps-is : swaps′ ≡ swaps x (call .arrival) (call .request)
   pub written-is : written ≡ queueToWrite (asked x call)
   pub read-is : readQueue ≡ queueToRead (wrote x call)
 
--- The five steps, carried out.
+-- The five steps, carried out, of a call of which no half drops.
 pub record CarrySays (x : State) (store : List ℕ) (call : Call) (r : Carried) (m : Arrays) (store′ : List ℕ)
     : Type 0 where
-  pub state-is : stateIn (r .regs) m ≡ accept x store call .state
+  pub state-is : stateIn (r .regs) m ≡ carriedOut 0 0 x store call .state
   pub delivery-is : deliveryIn (r .delivery) ≡ delivery x
   pub store-is : store′ ≡ wroteStore x store call
   pub long : Long m

@@ -88,7 +88,7 @@ pub struct Advanced {
 }
 
 // One slot. It is judged before anything moves, so that a refused one has changed nothing; then the counts by queue and
-// the state go on.
+// the state go on with what is left of the call.
 pub fn advance(
     tail: &mut TailArray,
     head: &mut HeadArray,
@@ -124,6 +124,8 @@ pub fn advance(
             reply: refused,
         };
     }
+    let comes = plan.arrival;
+    let asks = plan.request;
     let owes = plan.owes;
     let swaps = plan.swaps;
     let written = plan.written;
@@ -135,8 +137,8 @@ pub fn advance(
         owing,
         regs,
         cell,
-        arrival,
-        request,
+        comes,
+        asks,
         owes,
         written,
         read,
@@ -148,8 +150,8 @@ pub fn advance(
         firsts,
         stored,
         regs,
-        arrival,
-        request,
+        comes,
+        asks,
         owes,
         swaps,
         written,
@@ -162,8 +164,8 @@ pub fn advance(
         regs: next,
         reply: Reply {
             number: 0,
-            arrival_number: 0,
-            request_number: 0,
+            arrival_number: plan.arrival_number,
+            request_number: plan.request_number,
             delivery: delivery,
             written: written,
             read: read,

@@ -15,22 +15,26 @@ use Rattle.model.specs.State.{Byte, Cell, empty, held, owed, State, countOf, ta
 use Rattle.model.specs.State.{keeps}
 use Rattle.model.specs.Slot.{Call, oldestOf, oldestCell, headWithout, afterDelivery, arriving, isOwed, heldCell}
 use Rattle.model.specs.Slot.{youngestCell, moves, refillQueue, queueToWrite, queueToRead, joined, asked, wrote}
-use Rattle.model.specs.Slot.{swapTests, swaps, arrivalUnknown, arrivalFull}
-use Rattle.model.specs.Slot.{requestUnknown, nothingToTake, leavesUncovered, tailFull, headFull, refusal}
-use Rattle.model.proofs.basics.Tests.{by-test, positive}
+use Rattle.model.specs.Slot.{swapTests, swaps, arrivalUnknown, arrivalFull, arrivalTaken, requestDrops, halvesTaken}
+use Rattle.model.specs.Slot.{requestUnknown, nothingToTake, leavesUncovered, tailFull, headFull, refusals, refusal}
+use Rattle.model.proofs.basics.Tests.{by-test, positive, eqb-same, true-not-false}
+use Rattle.model.proofs.basics.FirstRefusal.{no-refusal-at, when-zero}
 use Rattle.model.proofs.basics.AllOf.{all-true-not}
 use Rattle.model.proofs.basics.Bytes.{count-append, count-one-other, count-past, length-without}
 use Rattle.model.proofs.one_slot.Rules.{keeps-facts}
 use Rattle.model.proofs.one_slot.StepsKeepRules.{count-head-without, owed-after-delivery}
+use Rattle.model.proofs.meaning.Steps.{seven-only}
 use Rattle.model.proofs.one_slot.Swap.{length-found}
+use Rattle.model.proofs.one_slot.Halves.{left-swaps}
 use Rattle.model.proofs.one_slot.Accepted.{Judged, judged-facts, early-none}
 use Rattle.lookahead.specs.Says.{spent}
-use Rattle.layout.specs.Figures.{figuresOf, newCell}
+use Rattle.layout.specs.Figures.{Figures, figuresOf, newCell}
 use Rattle.slot_counts.specs.Says.{tailsAsked}
 use Rattle.slot_counts.proofs.Kept.{tails-found}
 use Rattle.slot_refusals.specs.Says.{owesNow, arrivesAt, swapTestsNow, swapsNow, arrivalNumber, requestNumber}
-use Rattle.slot_refusals.specs.Says.{leavingNumber, tailNumber, earlyNumber, takesByte, fullNow}
-use Rattle.slot_plan.specs.Says.{writeNow, readNow, swapsOf}
+use Rattle.slot_refusals.specs.Says.{leavingNumber, tailNumber, arrivalLeft, requestLeft, arrivalFound, requestFound}
+use Rattle.slot_refusals.specs.Says.{earlyNumber, takesByte, fullNow}
+use Rattle.slot_plan.specs.Says.{writeNow, readNow, swapsOf, leftOf}
 
 -- The first refusal of parts: a part stands for its list, and what follows counts only where the list has none.
 first-of-part : (ms ns : List ℕ) → firstRefusal (firstRefusal ms ∷ ns) ≡ firstRefusal (ms ++ ns)
@@ -130,38 +134,92 @@ tail-as-paper x none request = refl
 tail-as-paper x (some y) request =
     ap (λ (n : ℕ). when (leb (tailSize (x .sizes)) n) 9) (sym (length-found x (some y) request))
 
--- 4 to 9 in the paper's order.
-abbrev arrivalRefusals : State → Call → List ℕ
-arrivalRefusals x call =
-    when (arrivalUnknown x (call .arrival)) 4 ∷ when (arrivalFull x (call .arrival) (call .request)) 5 ∷ []
+-- A number of two tests is the first that holds; where the first does not hold, the second alone.
+first-is : (u v : Bool) (m n : ℕ) → (suc m ≡ suc n → ⊥)
+    → when (eqb (firstRefusal (when u (suc m) ∷ when v (suc n) ∷ [])) (suc m)) (suc m) ≡ when u (suc m)
+first-is true v m n f = ap (λ (t : Bool). when t (suc m)) (eqb-same (suc m))
+first-is false true m n f = ap (λ (t : Bool). when t (suc m)) (ne-eqb (suc n) (suc m) (λ e. f (sym e)))
+first-is false false m n f = ap (λ (t : Bool). when t (suc m)) (ne-eqb 0 (suc m) (λ e. omega (arith, e)))
 
-abbrev requestRefusals : State → Call → List ℕ
-requestRefusals x call =
-    when (requestUnknown x (call .request)) 6 ∷ when (nothingToTake x (call .arrival) (call .request)) 7 ∷ []
+second-is : (u v : Bool) (m n : ℕ) → u ≡ false
+    → firstRefusal (when u (suc m) ∷ when v (suc n) ∷ []) ≡ when v (suc n)
+second-is true v m n e = absurd (true-not-false true refl e)
+second-is false true m n e = refl
+second-is false false m n e = refl
 
-abbrev otherRefusals : State → Call → List ℕ
-otherRefusals x call =
-    when (leavesUncovered (oldestCell (x .cells)) x) 8 ∷ when (tailFull x (call .arrival) (call .request)) 9 ∷ []
+told-by : (v : Bool) (n : ℕ) → eqb (when v (suc n)) (suc n) ≡ v
+told-by true n = eqb-same (suc n)
+told-by false n = ne-eqb 0 (suc n) (λ e. omega (arith, e))
 
-abbrev fourToNine : State → Call → List ℕ
-fourToNine x call = arrivalRefusals x call ++ requestRefusals x call ++ otherRefusals x call
+-- The numbers of a call's halves, and what is left of it, are the paper's, where the queues are known.
+module _ (x : State) (kept : keeps paper x ≡ true) (call : Call) where
+  abbrev f : Figures
+  f = figuresOf x
 
-early-as-paper : (x : State) → keeps paper x ≡ true → (call : Call)
-    → earlyNumber (figuresOf x) (owesNow (figuresOf x) (call .request)) (swapsOf (figuresOf x) call)
-    (oldestCell (x .cells)) call
-    ≡ firstRefusal (fourToNine x call)
-early-as-paper x kept call =
-    rw (
-      swaps-as-paper x kept (call .arrival) (call .request),
-      arrival-as-paper x (call .arrival) (call .request),
-      request-as-paper x (call .arrival) (call .request),
-      leaving-as-paper x (oldestCell (x .cells)),
-      tail-as-paper x (call .arrival) (call .request),
-    )
-    (first-of-part (arrivalRefusals x call) (firstRefusal (requestRefusals x call) ∷ otherRefusals x call)
-    ∙ first-after (arrivalRefusals x call) (firstRefusal (requestRefusals x call) ∷ otherRefusals x call)
-    (requestRefusals x call ++ otherRefusals x call)
-    (λ e. first-of-part (requestRefusals x call) (otherRefusals x call)))
+  abbrev o : Bool
+  o = owesNow (figuresOf x) (call .request)
+
+  arrival-found : arrivalFound f o call
+      ≡ firstRefusal (
+      when (arrivalUnknown x (call .arrival)) 4 ∷ when (arrivalFull x (call .arrival) (call .request)) 5 ∷ [])
+  arrival-found =
+      ap (λ (t : Bool). arrivalNumber f t (call .arrival)) (swaps-as-paper x kept (call .arrival) (call .request))
+      ∙ arrival-as-paper x (call .arrival) (call .request)
+
+  request-found : requestFound f o call
+      ≡ firstRefusal (
+      when (requestUnknown x (call .request)) 6 ∷
+      when (nothingToTake x (leftOf f call .arrival) (call .request)) 7 ∷ [])
+  request-found = request-as-paper x (leftOf f call .arrival) (call .request)
+
+  stops-by-4 : when (eqb (arrivalFound f o call) 4) 4 ≡ when (arrivalUnknown x (call .arrival)) 4
+  stops-by-4 =
+      ap (λ (n : ℕ). when (eqb n 4) 4) arrival-found
+      ∙ first-is (arrivalUnknown x (call .arrival)) (arrivalFull x (call .arrival) (call .request)) 3 4
+      (λ e. omega (arith, e))
+
+  stops-by-6 : when (eqb (requestFound f o call) 6) 6 ≡ when (requestUnknown x (call .request)) 6
+  stops-by-6 =
+      ap (λ (n : ℕ). when (eqb n 6) 6) request-found
+      ∙ first-is (requestUnknown x (call .request)) (nothingToTake x (leftOf f call .arrival) (call .request)) 5 6
+      (λ e. omega (arith, e))
+
+  module _ (known : arrivalUnknown x (call .arrival) ≡ false) where
+    five-as-paper : arrivalFound f o call ≡ when (arrivalFull x (call .arrival) (call .request)) 5
+    five-as-paper =
+        arrival-found
+        ∙ second-is (arrivalUnknown x (call .arrival)) (arrivalFull x (call .arrival) (call .request)) 3 4 known
+
+    arrival-left : leftOf f call .arrival ≡ arrivalTaken x call
+    arrival-left =
+        ap (λ (n : ℕ). arrivalLeft n (call .arrival)) five-as-paper
+        ∙ ap (λ (t : Bool). choose t none (call .arrival))
+        (told-by (arrivalFull x (call .arrival) (call .request)) 4)
+
+    nine-as-paper :
+        tailNumber (x .sizes) (length (x .tail)) (swapsOf f call) (leftOf f call .arrival)
+        ≡ when (tailFull x (halvesTaken x call .arrival) (halvesTaken x call .request)) 9
+    nine-as-paper =
+        ap (λ (t : Bool). tailNumber (x .sizes) (length (x .tail)) t (leftOf f call .arrival))
+        (swaps-as-paper x kept (call .arrival) (call .request) ∙ sym (left-swaps x call))
+        ∙ ap (tailNumber (x .sizes) (length (x .tail))
+        (swaps x (halvesTaken x call .arrival) (halvesTaken x call .request))) arrival-left
+        ∙ tail-as-paper x (halvesTaken x call .arrival) (halvesTaken x call .request)
+
+    module _ (asked-known : requestUnknown x (call .request) ≡ false) where
+      seven-as-paper : requestFound f o call ≡ when (requestDrops x call) 7
+      seven-as-paper =
+          request-found
+          ∙ second-is (requestUnknown x (call .request)) (nothingToTake x (leftOf f call .arrival) (call .request)) 5 6
+          asked-known
+          ∙ ap (λ (a : Option Byte). when (nothingToTake x a (call .request)) 7) arrival-left
+
+      left-as-paper : leftOf f call ≡ halvesTaken x call
+      left-as-paper =
+          ap (λ (a : Option Byte). record { arrival = a; request = leftOf f call .request }) arrival-left
+          ∙ ap (λ (r : Option ℕ). record { arrival = arrivalTaken x call; request = r })
+          (ap (λ (n : ℕ). requestLeft n (call .request)) seven-as-paper
+          ∙ ap (λ (t : Bool). choose t none (call .request)) (told-by (requestDrops x call) 6))
 
 -- A Held cell at the end is passed over as an empty one is.
 held-passed : (credits : ℕ → ℕ) (cells : List Cell) (q v : ℕ)
@@ -200,7 +258,7 @@ full-alike x call e none = refl
 full-alike x call e (some q) =
     ap (λ (n : ℕ). ltb (headSize (x .sizes)) (n + x .sizes .b)) (length-taken x (oldestCell (x .cells)) e)
 
--- Where none of 4 to 9 holds, the steps find what was judged before them.
+-- Where none of them stops the slot, the steps find what was judged before them, of a call that drops nothing.
 module _ (x : State) (store : List ℕ) (call : Call) (j : Judged paper x store call) where
   owed-alike : (q : ℕ) → isOwed x q ≡ isOwed (joined x call) q
   owed-alike q =
@@ -236,26 +294,78 @@ module _ (x : State) (store : List ℕ) (call : Call) (j : Judged paper x store 
       ∙ ap (λ (credits : ℕ → ℕ). refillQueue credits (wrote x call .cells))
       (fun-ext (λ q. sym (count-head-without (oldestCell (x .cells)) (x .head) q))))
 
+-- A request that is dropped would not be Owed, so that what is left of the call is Owed as the call is.
+owes-left : (x : State) (call : Call) → owesNow (figuresOf x) (halvesTaken x call .request)
+    ≡ owesNow (figuresOf x) (call .request)
+owes-left x call = go (call .request) refl
+  where
+    dropped : (q : ℕ) → call .request ≡ some q → requestDrops x call ≡ true → isOwed x q ≡ false
+    dropped q e d =
+        seven-only x (arrivalTaken x call) q (ap (nothingToTake x (arrivalTaken x call)) (sym e) ∙ d) .0
+
+    go : (request : Option ℕ) → call .request ≡ request
+        → owesNow (figuresOf x) (halvesTaken x call .request) ≡ owesNow (figuresOf x) (call .request)
+    go none e =
+        ap (λ (r : Option ℕ). owesNow (figuresOf x) (choose (nothingToTake x (arrivalTaken x call) r) none r)) e
+        ∙ ap (owesNow (figuresOf x)) (sym e)
+    go (some q) e =
+        by-test (requestDrops x call)
+        (λ d. ap (λ (t : Bool). owesNow (figuresOf x) (choose t none (call .request))) d
+        ∙ sym (ap (owesNow (figuresOf x)) e ∙ not-owed (leb (x .sizes .Q) q) (dropped q e d)))
+        (λ d. ap (λ (t : Bool). owesNow (figuresOf x) (choose t none (call .request))) d)
+      where
+        not-owed : (t : Bool) → isOwed x q ≡ false → choose t false (isOwed x q) ≡ false
+        not-owed true n = refl
+        not-owed false n = n
+
 -- 3 and 2 do not hold of a state that keeps the rules and a store that is long enough.
 passed : (keeping short : Bool) (ns : List ℕ) → keeping ≡ true → short ≡ false
     → firstRefusal (when (not keeping) 3 ∷ when short 2 ∷ ns) ≡ firstRefusal ns
 passed keeping short ns e f = rw (e, f)
 
-module _ (x : State) (store : List ℕ) (call : Call) where
-  pub plan-refusal : keeps paper x ≡ true → storeBytes (x .sizes) ≤ length store
+module _ (x : State) (store : List ℕ) (call : Call) (kept : keeps paper x ≡ true) where
+  abbrev left : Call
+  left = halvesTaken x call
+
+  -- 4 and 6, and the other stops before the read.
+  abbrev unknowns : List ℕ
+  unknowns = when (arrivalUnknown x (call .arrival)) 4 ∷ when (requestUnknown x (call .request)) 6 ∷ []
+
+  abbrev others : List ℕ
+  others =
+      when (leavesUncovered (oldestCell (x .cells)) x) 8 ∷ when (tailFull x (left .arrival) (left .request)) 9 ∷ []
+
+  arrival-known : firstRefusal unknowns ≡ 0 → arrivalUnknown x (call .arrival) ≡ false
+  arrival-known e = when-zero _ 3 (no-refusal-at unknowns 0 e)
+
+  request-known : firstRefusal unknowns ≡ 0 → requestUnknown x (call .request) ≡ false
+  request-known e = when-zero _ 5 (no-refusal-at unknowns 1 e)
+
+  early-as-paper : earlyNumber (figuresOf x) (owesNow (figuresOf x) (call .request)) (oldestCell (x .cells)) call
+      ≡ firstRefusal (unknowns ++ others)
+  early-as-paper =
+      rw (stops-by-4 x kept call, stops-by-6 x kept call, leaving-as-paper x (oldestCell (x .cells)))
+      (first-after unknowns (when (leavesUncovered (oldestCell (x .cells)) x) 8 ∷ nine ∷ []) others
+      (λ e. ap (λ (n : ℕ). firstRefusal (when (leavesUncovered (oldestCell (x .cells)) x) 8 ∷ n ∷ []))
+      (nine-as-paper x kept call (arrival-known e))))
+    where
+      nine : ℕ
+      nine =
+          tailNumber (x .sizes) (length (x .tail)) (swapsOf (figuresOf x) call) (leftOf (figuresOf x) call .arrival)
+
+  pub plan-refusal : storeBytes (x .sizes) ≤ length store
       → firstRefusal (
-      earlyNumber (figuresOf x) (owesNow (figuresOf x) (call .request)) (swapsOf (figuresOf x) call)
-      (oldestCell (x .cells)) call ∷
+      earlyNumber (figuresOf x) (owesNow (figuresOf x) (call .request)) (oldestCell (x .cells)) call ∷
       when (fullNow (x .sizes) (length (x .head)) (oldestCell (x .cells))
       (readNow (x .phase) (x .sizes) (headBytes x) (x .cells) (owesNow (figuresOf x) (call .request))
-      (call .request))) 10 ∷ [])
+      (leftOf (figuresOf x) call .request))) 10 ∷ [])
       ≡ refusal paper x store call
-  plan-refusal kept long =
-      ap (λ (n : ℕ). firstRefusal (n ∷ when full-before 10 ∷ [])) (early-as-paper x kept call)
-      ∙ first-of-part (fourToNine x call) (when full-before 10 ∷ [])
-      ∙ first-after (fourToNine x call) (when full-before 10 ∷ []) (when full-then 10 ∷ [])
-      (λ e. ap (λ (t : Bool). firstRefusal (when t 10 ∷ [])) (full-same (judged e)))
-      ∙ sym (passed (keeps paper x) short (fourToNine x call ++ when full-then 10 ∷ []) kept enough)
+  plan-refusal long =
+      ap (λ (n : ℕ). firstRefusal (n ∷ when full-before 10 ∷ [])) early-as-paper
+      ∙ first-of-part (unknowns ++ others) (when full-before 10 ∷ [])
+      ∙ first-after (unknowns ++ others) (when full-before 10 ∷ []) (when full-then 10 ∷ [])
+      (λ e. ap (λ (t : Bool). firstRefusal (when t 10 ∷ [])) (full-same (none-unknown e) (judged e)))
+      ∙ sym (passed (keeps paper x) short (unknowns ++ others ++ when full-then 10 ∷ []) kept enough)
     where
       short : Bool
       short = ltb (length store) (storeBytes (x .sizes))
@@ -267,35 +377,73 @@ module _ (x : State) (store : List ℕ) (call : Call) where
       full-before =
           fullNow (x .sizes) (length (x .head)) (oldestCell (x .cells))
           (readNow (x .phase) (x .sizes) (headBytes x) (x .cells) (owesNow (figuresOf x) (call .request))
-          (call .request))
+          (leftOf (figuresOf x) call .request))
 
       full-then : Bool
-      full-then = headFull (wrote x call) (queueToRead (wrote x call))
+      full-then = headFull (wrote x left) (queueToRead (wrote x left))
 
-      judged : firstRefusal (fourToNine x call) ≡ 0 → Judged paper x store call
-      judged e = judged-facts paper x store call (passed (keeps paper x) short (fourToNine x call) kept enough ∙ e)
+      none-unknown : firstRefusal (unknowns ++ others) ≡ 0 → firstRefusal unknowns ≡ 0
+      none-unknown e =
+          rw (no-refusal-at (unknowns ++ others) 0 e, no-refusal-at (unknowns ++ others) 1 e)
 
-      full-same : Judged paper x store call → full-before ≡ full-then
-      full-same j =
-          ap (fullNow (x .sizes) (length (x .head)) (oldestCell (x .cells))) (read-alike x store call j)
-          ∙ full-alike x call (j .covered) (queueToRead (wrote x call))
+      judged : firstRefusal (unknowns ++ others) ≡ 0 → Judged paper x store left
+      judged e = judged-facts paper x store call (passed (keeps paper x) short (unknowns ++ others) kept enough ∙ e)
 
-  judged-none : refusal paper x store call ≡ 0 → Judged paper x store call
-  judged-none e = judged-facts paper x store call (early-none paper x store call e)
+      full-same : firstRefusal unknowns ≡ 0 → Judged paper x store left → full-before ≡ full-then
+      full-same u j =
+          ap (λ (c : Call). fullNow (x .sizes) (length (x .head)) (oldestCell (x .cells))
+          (readNow (x .phase) (x .sizes) (headBytes x) (x .cells) (owesNow (figuresOf x) (call .request))
+          (c .request))) (left-as-paper x kept call (arrival-known u) (request-known u))
+          ∙ ap (λ (t : Bool). fullNow (x .sizes) (length (x .head)) (oldestCell (x .cells))
+          (readNow (x .phase) (x .sizes) (headBytes x) (x .cells) t (left .request))) (sym (owes-left x call))
+          ∙ ap (fullNow (x .sizes) (length (x .head)) (oldestCell (x .cells))) (read-alike x store left j)
+          ∙ full-alike x left (j .covered) (queueToRead (wrote x left))
 
-  pub plan-owes : refusal paper x store call ≡ 0 → (q : ℕ) → call .request ≡ some q
-      → owesNow (figuresOf x) (call .request) ≡ isOwed (joined x call) q
-  plan-owes e = owes-alike x store call (judged-none e)
+  -- A slot that goes on.
+  module _ (accepted : refusal paper x store call ≡ 0) where
+    known : arrivalUnknown x (call .arrival) ≡ false
+    known = when-zero _ 3 (no-refusal-at (refusals paper x store call) 2 accepted)
 
-  pub plan-swaps : keeps paper x ≡ true → swapsOf (figuresOf x) call ≡ swaps x (call .arrival) (call .request)
-  plan-swaps kept = swaps-as-paper x kept (call .arrival) (call .request)
+    asked-known : requestUnknown x (call .request) ≡ false
+    asked-known = when-zero _ 5 (no-refusal-at (refusals paper x store call) 3 accepted)
 
-  pub plan-read : refusal paper x store call ≡ 0
-      → readNow (x .phase) (x .sizes) (headBytes x) (x .cells) (owesNow (figuresOf x) (call .request)) (call .request)
-      ≡ queueToRead (wrote x call)
-  plan-read e = read-alike x store call (judged-none e)
+    judged : Judged paper x store left
+    judged = judged-facts paper x store call (early-none paper x store call accepted)
 
-  pub plan-written : refusal paper x store call ≡ 0
-      → writeNow (x .phase) (x .sizes) (tailsAsked (owesNow (figuresOf x) (call .request)) call (tailBytes x))
-      ≡ queueToWrite (asked x call)
-  plan-written e = ap (writeNow (x .phase) (x .sizes)) (tails-found x call (plan-owes e) (λ q. refl))
+    pub plan-left : leftOf (figuresOf x) call ≡ left
+    plan-left = left-as-paper x kept call known asked-known
+
+    pub plan-arrival-number : arrivalFound (figuresOf x) (owesNow (figuresOf x) (call .request)) call
+        ≡ when (arrivalFull x (call .arrival) (call .request)) 5
+    plan-arrival-number = five-as-paper x kept call known
+
+    pub plan-request-number : requestFound (figuresOf x) (owesNow (figuresOf x) (call .request)) call
+        ≡ when (requestDrops x call) 7
+    plan-request-number = seven-as-paper x kept call known asked-known
+
+    pub plan-owes : (q : ℕ) → left .request ≡ some q
+        → owesNow (figuresOf x) (call .request) ≡ isOwed (joined x left) q
+    plan-owes q e = sym (owes-left x call) ∙ owes-alike x store left judged q e
+
+    pub plan-swaps : swapsOf (figuresOf x) call ≡ swaps x (left .arrival) (left .request)
+    plan-swaps = swaps-as-paper x kept (call .arrival) (call .request) ∙ sym (left-swaps x call)
+
+    pub plan-read :
+        readNow (x .phase) (x .sizes) (headBytes x) (x .cells) (owesNow (figuresOf x) (call .request))
+        (leftOf (figuresOf x) call .request)
+        ≡ queueToRead (wrote x left)
+    plan-read =
+        ap (λ (c : Call). readNow (x .phase) (x .sizes) (headBytes x) (x .cells) (owesNow (figuresOf x) (call .request))
+        (c .request)) plan-left
+        ∙ ap (λ (t : Bool). readNow (x .phase) (x .sizes) (headBytes x) (x .cells) t (left .request))
+        (sym (owes-left x call))
+        ∙ read-alike x store left judged
+
+    pub plan-written :
+        writeNow (x .phase) (x .sizes)
+        (tailsAsked (owesNow (figuresOf x) (call .request)) (leftOf (figuresOf x) call) (tailBytes x))
+        ≡ queueToWrite (asked x left)
+    plan-written =
+        ap (λ (c : Call). writeNow (x .phase) (x .sizes)
+        (tailsAsked (owesNow (figuresOf x) (call .request)) c (tailBytes x))) plan-left
+        ∙ ap (writeNow (x .phase) (x .sizes)) (tails-found x left plan-owes (λ q. refl))

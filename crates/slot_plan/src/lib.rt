@@ -1,6 +1,6 @@
-// What a slot will do, decided here alone and before anything moves: its refusal or 0, whether its request takes an
-// Owed cell, whether it takes its request before its arrival, the queue to write and the queue to read. So a refused
-// slot has nothing to undo.
+// What a slot will do, decided here alone and before anything moves: the number that stops it or 0, those of its halves
+// and what is left of them, whether its request takes an Owed cell, whether it takes its request before its arrival,
+// the queue to write and the queue to read. So a refused slot has nothing to undo, and a dropped half never came.
 ghost use mathlib.Core.Path.{_≡_};
 ghost use mathlib.Core.Bool.{true, false};
 ghost use mathlib.Core.Option.{some, none};
@@ -125,9 +125,13 @@ pub fn late_arrival(swaps: bool, arrival: Arrival) -> Arrival
     Arrival::NoArrival
 }
 
-// What a slot will do.
+// What a slot will do. `arrival` and `request` are what it takes of its call.
 pub struct Plan {
     pub number: u8,
+    pub arrival_number: u8,
+    pub request_number: u8,
+    pub arrival: Arrival,
+    pub request: Request,
     pub owes: bool,
     pub swaps: bool,
     pub written: Chosen,
@@ -140,6 +144,10 @@ pub fn refused(number: u8) -> Plan
 {
     Plan {
         number: number,
+        arrival_number: 0,
+        request_number: 0,
+        arrival: Arrival::NoArrival,
+        request: Request::NoRequest,
         owes: false,
         swaps: false,
         written: Chosen::Nothing,
@@ -181,17 +189,23 @@ pub fn decide(
         request,
     );
     let number = verdict.number;
-    let swaps = verdict.swaps;
     if number != 0 {
         return refused(number);
     }
-    let read = to_read(cells, heads, regs, owes, request);
+    let comes = verdict.arrival;
+    let asks = verdict.request;
+    let swaps = verdict.swaps;
+    let read = to_read(cells, heads, regs, owes, asks);
     if slot_refusals::head_full(regs, cell, read) {
         return refused(10);
     }
-    let written = to_write(tails, regs, owes, arrival, request);
+    let written = to_write(tails, regs, owes, comes, asks);
     Plan {
         number: 0,
+        arrival_number: verdict.arrival_number,
+        request_number: verdict.request_number,
+        arrival: comes,
+        request: asks,
         owes: owes,
         swaps: swaps,
         written: written,

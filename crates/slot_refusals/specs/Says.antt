@@ -10,7 +10,9 @@ use Rattle.model.specs.Basics.{choose, allTrue, when, firstRefusal}
 use Rattle.model.specs.Sizes.{Sizes, tailSize, headSize}
 use Rattle.model.specs.State.{Byte, Cell, empty, held, owed}
 use Rattle.model.specs.Slot.{Call}
+use Rattle.layout.specs.Calls.{callIn}
 use Rattle.layout.specs.Figures.{Figures}
+use Rattle.slot_refusals.specs.declared.Verdict.{Verdict}
 
 -- Whether the request takes an Owed cell.
 abbrev pub owesNow : Figures → Option ℕ → Bool
@@ -75,20 +77,46 @@ abbrev pub tailNumber : Sizes → ℕ → Bool → Option Byte → ℕ
 tailNumber s fill swapping none = 0
 tailNumber s fill swapping (some y) = when (leb (tailSize s) (fill - choose swapping 1 0)) 9
 
--- 4 to 9, the first of them.
-abbrev pub earlyNumber : Figures → Bool → Bool → Cell → Call → ℕ
-earlyNumber f owing swapping cell call =
-    firstRefusal (
-    arrivalNumber f swapping (call .arrival) ∷
-    requestNumber f owing (call .arrival) (call .request) ∷
-    leavingNumber (f .heads) cell ∷
-    tailNumber (f .sizes) (f .fill) swapping (call .arrival) ∷ [])
+-- Request 2.5, "5 and 7 refuse their half of the slot only": what is left of an arrival and of a request that were
+-- judged so.
+abbrev pub arrivalLeft : ℕ → Option Byte → Option Byte
+arrivalLeft number arrival = choose (eqb number 5) none arrival
 
--- What is judged before the read: the first of them, and whether the slot swaps.
-pub record EarlySays (f : Figures) (owing : Bool) (cell : Cell) (call : Call) (number : ℕ) (swapping : Bool) : Type 0
-  where
-    pub swaps-is : swapping ≡ swapsNow f owing (call .arrival) (call .request)
-    pub number-is : number ≡ earlyNumber f owing swapping cell call
+abbrev pub requestLeft : ℕ → Option ℕ → Option ℕ
+requestLeft number request = choose (eqb number 7) none request
+
+-- "7 is judged without a dropped arrival": the numbers of a call's arrival and of its request, and what is left of it.
+abbrev pub arrivalFound : Figures → Bool → Call → ℕ
+arrivalFound f owing call = arrivalNumber f (swapsNow f owing (call .arrival) (call .request)) (call .arrival)
+
+abbrev pub requestFound : Figures → Bool → Call → ℕ
+requestFound f owing call =
+    requestNumber f owing (arrivalLeft (arrivalFound f owing call) (call .arrival)) (call .request)
+
+abbrev pub leftNow : Figures → Bool → Call → Call
+leftNow f owing call = record {
+  arrival = arrivalLeft (arrivalFound f owing call) (call .arrival);
+  request = requestLeft (requestFound f owing call) (call .request);
+}
+
+-- "Every other refusal still stops the slot": 4, 6, 8 and 9, the first of them. 9 looks at what is left of the arrival.
+abbrev pub earlyNumber : Figures → Bool → Cell → Call → ℕ
+earlyNumber f owing cell call =
+    firstRefusal (
+    when (eqb (arrivalFound f owing call) 4) 4 ∷
+    when (eqb (requestFound f owing call) 6) 6 ∷
+    leavingNumber (f .heads) cell ∷
+    tailNumber (f .sizes) (f .fill) (swapsNow f owing (call .arrival) (call .request)) (leftNow f owing call .arrival) ∷
+    [])
+
+-- What is judged before the read: the number that stops the slot, and of a slot that goes on the numbers of its halves,
+-- what is left of them, and whether it swaps.
+pub record EarlySays (f : Figures) (owing : Bool) (cell : Cell) (call : Call) (r : Verdict) : Type 0 where
+  pub number-is : r .number ≡ earlyNumber f owing cell call
+  pub arrival-number-is : r .number ≡ 0 → r .«arrival_number» ≡ arrivalFound f owing call
+  pub request-number-is : r .number ≡ 0 → r .«request_number» ≡ requestFound f owing call
+  pub left-is : r .number ≡ 0 → callIn (r .arrival) (r .request) ≡ leftNow f owing call
+  pub swaps-is : r .number ≡ 0 → r .swaps ≡ swapsNow f owing (call .arrival) (call .request)
 
 -- 10: "Head cannot take the block of step 4": a leaving Owed cell has taken a byte.
 abbrev pub takesByte : Cell → ℕ

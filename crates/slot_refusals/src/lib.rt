@@ -1,4 +1,5 @@
-// Refusals 4 to 10, judged by counts of each queue before anything moves, so that a refused slot has nothing to undo.
+// Refusals 4 to 10, judged by counts of each queue before anything moves, so that a refused slot has nothing to undo
+// and a dropped half never came.
 ghost use mathlib.Core.Path.{_≡_};
 ghost use mathlib.Core.Bool.{true};
 ghost use mathlib.Core.List.{[]};
@@ -15,7 +16,7 @@ ghost use Rattle.layout.specs.Views.{sizesIn};
 ghost use Rattle.layout.specs.Figures.{figuresIn};
 ghost use Rattle.slot_refusals.specs.Says.{owesNow, arrivesAt, asksFor, queueFullNow, roomTestsNow};
 ghost use Rattle.slot_refusals.specs.Says.{ArrivalSays, requestNumber, leavingNumber, tailNumber};
-ghost use Rattle.slot_refusals.specs.Says.{EarlySays, fullNow};
+ghost use Rattle.slot_refusals.specs.Says.{arrivalLeft, requestLeft, EarlySays, fullNow};
 use layout::Arrival;
 use layout::Chosen;
 use layout::CountArray;
@@ -88,9 +89,8 @@ fn makes_room(tails: &CountArray, owes: bool, request: Request, queue: u8) -> bo
     false
 }
 
-// What is judged of a slot before its read: the first refusal or 0, and whether the slot takes its request before its
-// arrival.
-pub struct Verdict {
+// What is judged of an arrival: its number or 0, and whether the slot takes its request before it.
+pub struct ArrivalJudged {
     pub number: u8,
     pub swaps: bool,
 }
@@ -103,38 +103,38 @@ pub fn judge_arrival(
     owes: bool,
     arrival: Arrival,
     request: Request,
-) -> Verdict
+) -> ArrivalJudged
     requires { ⌜ (accepts paperLimits (sizesIn regs) ≡ true)
         × (length (now tails) ≡ queuePlaces) × (length (now stored) ≡ queuePlaces) ⌝ }
     ensures { λ r. ⌜ ArrivalSays (figuresIn regs (byQueue (now (tails .entry)) [] []) (now (stored .entry)))
         owes (callIn arrival request) (r .number) (r .swaps) ⌝ }
 {
     match arrival {
-        Arrival::NoArrival => Verdict {
+        Arrival::NoArrival => ArrivalJudged {
             number: 0,
             swaps: false,
         },
         Arrival::Comes(queue, value) => {
             let q = queue as usize;
             if regs.queues <= q {
-                return Verdict {
+                return ArrivalJudged {
                     number: 4,
                     swaps: false,
                 };
             }
             if is_full(tails, stored, regs, q) {
                 if makes_room(tails, owes, request, queue) {
-                    return Verdict {
+                    return ArrivalJudged {
                         number: 0,
                         swaps: true,
                     };
                 }
-                return Verdict {
+                return ArrivalJudged {
                     number: 5,
                     swaps: false,
                 };
             }
-            Verdict {
+            ArrivalJudged {
                 number: 0,
                 swaps: false,
             }
@@ -213,7 +213,53 @@ pub fn judge_tail(regs: Regs, swapping: bool, arrival: Arrival) -> u8
     }
 }
 
-// 4 to 9, by number.
+// What is left of an arrival that was judged so: 5 drops it.
+fn left_arrival(number: u8, arrival: Arrival) -> Arrival
+    ensures { λ r. ⌜ arrivalIn r ≡ arrivalLeft number (arrivalIn arrival) ⌝ }
+{
+    if number == 5 {
+        return Arrival::NoArrival;
+    }
+    arrival
+}
+
+// What is left of a request that was judged so: 7 drops it.
+fn left_request(number: u8, request: Request) -> Request
+    ensures { λ r. ⌜ requestIn r ≡ requestLeft number (requestIn request) ⌝ }
+{
+    if number == 7 {
+        return Request::NoRequest;
+    }
+    request
+}
+
+// What is judged of a slot before its read: the number that stops it, or 0; of a slot that goes on the numbers of its
+// halves, 5 or 0 and 7 or 0, what is left of them, and whether it takes its request before its arrival.
+pub struct Verdict {
+    pub number: u8,
+    pub arrival_number: u8,
+    pub request_number: u8,
+    pub arrival: Arrival,
+    pub request: Request,
+    pub swaps: bool,
+}
+
+// The verdict on a slot that is stopped.
+fn stopped(number: u8) -> Verdict
+    ensures { λ r. ⌜ r .number ≡ number ⌝ }
+{
+    Verdict {
+        number: number,
+        arrival_number: 0,
+        request_number: 0,
+        arrival: Arrival::NoArrival,
+        request: Request::NoRequest,
+        swaps: false,
+    }
+}
+
+// 4 to 9 by number, of which 5 and 7 drop their half and the others stop the slot. 7 and 9 are judged without a dropped
+// arrival.
 pub fn judge_early(
     tails: &CountArray,
     heads: &CountArray,
@@ -229,34 +275,31 @@ pub fn judge_early(
         × (length (now stored) ≡ queuePlaces) × (cellBelow queuePlaces (cellOf cell) ≡ true) ⌝ }
     ensures { λ r. ⌜ EarlySays
         (figuresIn regs (byQueue (now (tails .entry)) (now (heads .entry)) []) (now (stored .entry)))
-        owes (cellOf cell) (callIn arrival request) (r .number) (r .swaps) ⌝ }
+        owes (cellOf cell) (callIn arrival request) r ⌝ }
 {
     let arriving = judge_arrival(tails, stored, regs, owes, arrival, request);
     let a = arriving.number;
     let swaps = arriving.swaps;
-    if a != 0 {
-        return Verdict {
-            number: a,
-            swaps: swaps,
-        };
+    if a == 4 {
+        return stopped(4);
     }
-    let r = judge_request(tails, regs, owes, arrival, request);
-    if r != 0 {
-        return Verdict {
-            number: r,
-            swaps: swaps,
-        };
+    let comes = left_arrival(a, arrival);
+    let r = judge_request(tails, regs, owes, comes, request);
+    if r == 6 {
+        return stopped(6);
     }
+    let asks = left_request(r, request);
     let l = judge_leaving(heads, cell);
     if l != 0 {
-        return Verdict {
-            number: l,
-            swaps: swaps,
-        };
+        return stopped(l);
     }
-    let t = judge_tail(regs, swaps, arrival);
+    let t = judge_tail(regs, swaps, comes);
     Verdict {
         number: t,
+        arrival_number: a,
+        request_number: r,
+        arrival: comes,
+        request: asks,
         swaps: swaps,
     }
 }

@@ -31,6 +31,10 @@ const LEAST_OF_AN_ANSWER: usize = 100;
 const LISTED: [&str; 4] = ["empty_frames", "no_frames", "tag_cut_14", "tag_cut_15"];
 const LISTED_SIZES: [usize; 3] = [8, 2, 4];
 
+/// The bytes of a script without arrivals, and of an arrival.
+const SIZES_AND_END: usize = 5;
+const ARRIVAL: usize = 3;
+
 /// A script, or a refusal's number.
 type Outcome = Result<Vec<u8>, u8>;
 
@@ -143,17 +147,18 @@ fn sizes_of(case: &CaptureCase) -> Sizes {
     Sizes { q: case.queues, b: case.block, k: case.depth }
 }
 
-/// Both print the same text of a script. The only refusals are of full queues, and of a store that is too short for the
-/// sizes.
+/// Both print the same text of a script. All that is dropped is for a full queue, and every slot is accepted, one for
+/// each captured byte; or the store is too short for the sizes, and none is.
 fn runs(case: &CaptureCase, script: &[u8], seen: &mut Seen) -> Result<(), String> {
     let (text, _) = texts::compare(script)?;
     let store_is_short = STORE_LENGTH < sizes_of(case).store_size();
+    let accepted = if store_is_short { 0 } else { (script.len() - SIZES_AND_END) / ARRIVAL };
     seen.runs += 1;
     for line in String::from_utf8_lossy(&text).lines() {
         match line.split(' ').collect::<Vec<_>>()[..] {
             ["R", _, "2"] if store_is_short => seen.short_stores += 1,
             ["R", _, "5"] if !store_is_short => seen.full_queues += 1,
-            ["E", _] => {}
+            ["E", count] if count == accepted.to_string() => {}
             _ => return Err(format!("its script prints '{line}'")),
         }
     }

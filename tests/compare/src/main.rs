@@ -8,11 +8,12 @@
 //! Each script is judged, read command by command, written back and run by both, in just as much output as is asked for
 //! it and, of the proved runner alone, in one byte less. PROGRAM is the program `slots`: every hundredth script, and
 //! those at the edges of the format and the worked cases, also go through it. Numbers that are no command go to the
-//! writer. Prints how often each line and each refusal occurred, and how many slots swapped; a line or a refusal that
-//! never occurred is a failure, and so are too few swaps in 4,000 scripts or more. `compare program` tests the program
-//! alone, on inputs that come in parts and on inputs and outputs that fail. `compare captures` has both make scripts of
-//! the captures in tests/captures and of COUNT random ones; it prints how often each answer came, and one that came too
-//! seldom in 4,000 captures or more is a failure. The last line is 'N passed, M failed'.
+//! writer. Prints how often each line and each refusal occurred, how often a slot had which lines and how many slots
+//! swapped; a line or a refusal that never occurred is a failure, and so are lines of a slot that are out of order, and
+//! too few slots of a kind or swaps in 4,000 scripts or more. `compare program` tests the program alone, on inputs that
+//! come in parts and on inputs and outputs that fail. `compare captures` has both make scripts of the captures in
+//! tests/captures and of COUNT random ones; it prints how often each answer came, and one that came too seldom in 4,000
+//! captures or more is a failure. The last line is 'N passed, M failed'.
 
 mod captures;
 mod commands;
@@ -82,9 +83,15 @@ fn main() -> ExitCode {
         println!("{kind} never occurred");
         failed += 1;
     }
-    if count >= seen::USUAL_SCRIPTS && seen.too_few_swaps() {
-        println!("too few swaps");
+    for lines in seen.out_of_order() {
+        println!("a slot has the lines [{lines}]");
         failed += 1;
+    }
+    if count >= seen::USUAL_SCRIPTS {
+        for what in seen.too_seldom() {
+            println!("[{what}] came too seldom");
+            failed += 1;
+        }
     }
     let tests = all.len() + scripts::WORKED.len() + numbers.len();
     close(tests, failed)

@@ -1,6 +1,6 @@
 //! Scripts to compare the two programs on, each from a seeded generator: heavy traffic at many sizes and at the
-//! limits, full queues that are read and refilled, queues out of range, counts, every malformation, and bytes at
-//! random.
+//! limits, full queues that are read and refilled, halves that are dropped, queues out of range, counts, every
+//! malformation, and bytes at random.
 
 use second::buffer::Buffer;
 use second::lists::Traffic;
@@ -47,25 +47,57 @@ const REFUSED: [(usize, usize, usize); 9] = [
     (16, 127, 33),
 ];
 
-/// The worked cases of request 2.1, each with its text: a full queue is read and refilled in slot 3, with both bytes in
-/// the tail, and in slot 2, with both in the store, so that the request would be Owed.
+/// Worked cases, each with its text. Of request 2.1: a full queue is read and refilled in slot 3, with both bytes in
+/// the tail, and in slot 2, with both in the store, so that the request would be Owed and the arrival is dropped. Of
+/// request 2.5: the listing of the paper; in slot 7 a byte leaves, a full queue drops an arrival, and the request of
+/// that queue, whose bytes are all owed, is dropped too; and what stops a slot is its only answer, though both halves
+/// would be dropped, as they are in slot 2.
 #[rustfmt::skip]
-pub const WORKED: [(&[u8], &str); 2] = [
+pub const WORKED: [(&[u8], &str); 7] = [
     (
         &[SIZES, 1, 2, 1, IDLE, ARRIVAL, 0, 65, ARRIVAL, 0, 66, BOTH, 0, 67, 0, COUNT, 4, 0, END],
         "D 5 0 65\nE 8\n",
     ),
     (
         &[SIZES, 1, 2, 1, ARRIVAL, 0, 65, ARRIVAL, 0, 66, BOTH, 0, 67, 0, COUNT, 4, 0, END],
-        "R 2 5\nE 6\n",
+        "R 2 5\nD 4 0 65\nE 7\n",
+    ),
+    (
+        &[
+            SIZES, 1, 2, 2, BOTH, 0, 65, 0, ARRIVAL, 0, 66, REQUEST, 0, REQUEST, 0, ARRIVAL, 0, 67, ARRIVAL, 0, 68,
+            IDLE, REQUEST, 0, COUNT, 2, 0, END,
+        ],
+        "D 2 0 65\nR 3 7\nD 4 0 66\nD 9 0 67\nE 10\n",
+    ),
+    (
+        &[
+            SIZES, 2, 2, 1, ARRIVAL, 0, 65, ARRIVAL, 0, 66, ARRIVAL, 1, 67, ARRIVAL, 1, 68, REQUEST, 1, REQUEST, 0,
+            REQUEST, 0, BOTH, 0, 69, 0, COUNT, 2, 0, END,
+        ],
+        "D 7 1 67\nR 7 5\nR 7 7\nD 8 0 65\nD 9 0 66\nE 10\n",
+    ),
+    (
+        &[
+            SIZES, 2, 2, 1, ARRIVAL, 0, 65, ARRIVAL, 0, 66, BOTH, 0, 67, 2, BOTH, 2, 67, 1, BOTH, 0, 67, 1, END,
+        ],
+        "R 2 6\nR 2 4\nR 2 5\nR 2 7\nE 3\n",
+    ),
+    (&[SIZES, 1, 1, 1, ARRIVAL, 0, 65, BOTH, 0, 66, 1, END], "R 1 6\nE 1\n"),
+    (
+        &[
+            SIZES, 2, 2, 1, ARRIVAL, 0, 66, ARRIVAL, 1, 67, ARRIVAL, 1, 68, IDLE, ARRIVAL, 0, 70, ARRIVAL, 0, 71,
+            REQUEST, 0, REQUEST, 1, REQUEST, 1, BOTH, 1, 75, 1, REQUEST, 1, END,
+        ],
+        "R 5 5\nD 9 0 66\nR 9 5\nR 9 7\nD 10 1 67\nR 10 7\nE 11\n",
     ),
 ];
 
 /// One script.
 pub fn script(random: &mut Random) -> Vec<u8> {
     match random.below(100) {
-        0..=49 => traffic(random),
-        50..=59 => refills(random),
+        0..=44 => traffic(random),
+        45..=54 => refills(random),
+        55..=59 => drops(random),
         60..=64 => with_sizes_refused(random),
         65..=89 => damaged(random),
         _ => bytes_at_random(random),
@@ -213,14 +245,25 @@ fn slots(random: &mut Random, sizes: Sizes, mix: Mix, length: usize) -> Vec<u8> 
     script
 }
 
-/// Queues of few blocks that are kept full, read and refilled in one slot (request 2.1). Which of them are full the
-/// second program tells.
+/// Queues of few blocks that are kept full, read and refilled in one slot (request 2.1).
 fn refills(random: &mut Random) -> Vec<u8> {
     let sizes = Sizes { q: random.between(1, 8), b: random.between(2, 6), k: random.pick(&[1, 1, 2]) };
+    let traffic = Traffic::of_full_queues(random);
+    by_state(random, sizes, traffic)
+}
+
+/// Many arrivals to full queues and requests of queues without a byte, also in one slot (request 2.5).
+fn drops(random: &mut Random) -> Vec<u8> {
+    let sizes = Sizes { q: random.between(1, 8), b: random.between(1, 6), k: random.between(1, 3) };
+    let traffic = Traffic::of_dropped_halves(random);
+    by_state(random, sizes, traffic)
+}
+
+/// Traffic that looks at the queues. Which of them are full or without a byte the second program tells.
+fn by_state(random: &mut Random, sizes: Sizes, traffic: Traffic) -> Vec<u8> {
     let cells = Design::Full.cells(sizes);
     let mut buffer = Buffer::fresh(sizes, cells).expect("these sizes are accepted");
     let mut store = vec![0; sizes.store_size()];
-    let traffic = Traffic::of_full_queues(random);
     let mut script = vec![SIZES, sizes.q as u8, sizes.b as u8, sizes.k as u8];
     for index in 0..random.between(50, 300) {
         let (arrival, request) = traffic.call(random, index, &buffer.to_raw());

@@ -11,7 +11,7 @@ pub enum Asker {
     Arbiter,
 }
 
-/// What an arbiter's slot hands back, and the queue that it asked for. A refused slot asked for none.
+/// What an arbiter's slot hands back, and the queue that it asked for. A stopped slot asked for none.
 #[derive(Clone, Copy, Debug, PartialEq, Eq)]
 pub struct ArbiterAnswer {
     pub answer: Answer,
@@ -19,8 +19,8 @@ pub struct ArbiterAnswer {
 }
 
 impl ArbiterAnswer {
-    pub fn refused(number: u8) -> ArbiterAnswer {
-        ArbiterAnswer { answer: Answer::refused(number), asked: None }
+    pub fn stopped(number: u8) -> ArbiterAnswer {
+        ArbiterAnswer { answer: Answer::stopped(number), asked: None }
     }
 }
 
@@ -34,14 +34,15 @@ impl Buffer {
             .find(|&queue| self.unrequested(queue) > 0 || self.arrival_counts(arrival, queue))
     }
 
-    /// "An arrival to a full queue does not count in the choice." Such a queue can still be chosen for its older bytes.
+    /// "An arrival to a full queue does not count in the choice." Such a queue can still be chosen for its older bytes,
+    /// and 7 never comes: what is chosen has a byte without an arrival that 5 drops.
     fn arrival_counts(&self, arrival: Option<(usize, u8)>, queue: usize) -> bool {
         let arrives_now = matches!(arrival, Some((arriving, _)) if arriving == queue);
         arrives_now && !self.is_full(queue)
     }
 
-    /// One slot, in which the arbiter asks. The last one asked moves here alone, where the slot is accepted and has a
-    /// request: "A refused slot or a caller's own request leaves it unchanged."
+    /// One slot, in which the arbiter asks. The last one asked moves here alone, where the slot is accepted, with its
+    /// arrival dropped or not, and has a request: "A refused slot or a caller's own request leaves it unchanged."
     pub fn arbiter_slot(
         &mut self,
         expected_cells: usize,
@@ -50,12 +51,12 @@ impl Buffer {
     ) -> ArbiterAnswer {
         // Nothing can be chosen from a state that breaks a rule.
         if let Some(number) = self.refusal_of_state(expected_cells, store.len()) {
-            return ArbiterAnswer::refused(number);
+            return ArbiterAnswer::stopped(number);
         }
         let request = self.choice(arrival);
         let answer = self.slot(expected_cells, arrival, request, store);
         if answer.number != 0 {
-            return ArbiterAnswer::refused(answer.number);
+            return ArbiterAnswer::stopped(answer.number);
         }
         if let Some(queue) = request {
             self.last_asked = queue;
@@ -73,6 +74,6 @@ impl RawState {
         store: &mut [u8],
     ) -> ArbiterAnswer {
         self.in_queues(expected_cells, |buffer| buffer.arbiter_slot(expected_cells, arrival, store))
-            .unwrap_or(ArbiterAnswer::refused(3))
+            .unwrap_or(ArbiterAnswer::stopped(3))
     }
 }

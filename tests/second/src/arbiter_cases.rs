@@ -1,6 +1,7 @@
 //! `second arbiter-cases`: closed cases of one slot call, in which the arbiter asks (request 2.2).
 
 use crate::arbiter::Asker;
+use crate::buffer::Numbers;
 use crate::case::{print_drawn_cases, Case};
 use crate::cases::{
     breaking_case, case_with_answer, random_design, random_queue, random_sizes, random_store, trouble_beside,
@@ -17,14 +18,16 @@ pub fn print_arbiter_cases(seed: u64, count: usize) {
     print_drawn_cases(seed, count, |random, broken| match broken {
         Some(which) => Case { asker: Asker::Arbiter, ..breaking_case(random, which) },
         None => {
-            // The arbiter never asks for an unknown queue, nor for one that has nothing to ask for.
-            let goal = random.pick(&[0, 0, 0, 0, 0, 0, 0, 2, 4, 5, 5, 8, 9, 10]);
+            let goal = if random.percent(50) { [0; 3] } else { random.pick(&GOALS) };
             case_with_answer(random, goal, leaning_case)
         }
     });
 }
 
-fn leaning_case(random: &mut Random, goal: u8) -> Case {
+/// The arbiter never asks for an unknown queue, nor for one that has nothing to ask for: no 6, and no 7.
+const GOALS: [Numbers; 7] = [[2, 0, 0], [4, 0, 0], [0, 5, 0], [0, 5, 0], [8, 0, 0], [9, 0, 0], [10, 0, 0]];
+
+fn leaning_case(random: &mut Random, goal: Numbers) -> Case {
     let design = random_design(random);
     let sizes = random_sizes(random, design);
     let state = leaning_state(random, sizes, design.cells(sizes), goal);
@@ -38,7 +41,7 @@ fn leaning_case(random: &mut Random, goal: u8) -> Case {
 }
 
 /// Often with a full queue, and often with queues that the arbiter passes over.
-pub(crate) fn leaning_state(random: &mut Random, sizes: Sizes, cell_count: usize, goal: u8) -> RawState {
+pub(crate) fn leaning_state(random: &mut Random, sizes: Sizes, cell_count: usize, goal: Numbers) -> RawState {
     let lean = Lean::towards(random, goal);
     let (mut state, full) = if random.percent(40) {
         let (state, queue) = state_with_full_queue(random, sizes, cell_count, lean);
@@ -72,7 +75,7 @@ fn leave_nothing(random: &mut Random, state: &mut RawState, queue: usize) {
 }
 
 /// Half of the arrivals are of a full queue, where there is one.
-pub(crate) fn leaning_queue(random: &mut Random, state: &RawState, goal: u8) -> Option<usize> {
+pub(crate) fn leaning_queue(random: &mut Random, state: &RawState, goal: Numbers) -> Option<usize> {
     let full: Vec<usize> = (0..state.sizes.q).filter(|&queue| room(state, queue) == 0).collect();
     if !full.is_empty() && random.percent(50) {
         return Some(random.pick(&full));

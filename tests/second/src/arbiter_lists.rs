@@ -12,7 +12,7 @@ const MOST_FILLING: usize = 20;
 pub fn print_arbiter_lists(seed: u64, count: usize) {
     let turns = |random: &mut Random, sizes: Sizes| Some(Turns::random(random, sizes));
     // Enough queues for the arbiter to pass over some, and for some to be full when it comes to them.
-    print_lists_of(&Kind { most_queues: 5, full_queues: 60, turns }, seed, count);
+    print_lists_of(&Kind { most_queues: 5, full_queues: 50, dropped_halves: 20, turns }, seed, count);
 }
 
 type Arrival = Option<(usize, u8)>;
@@ -57,8 +57,6 @@ impl Turns {
         if buffer.swaps(refill, asked) && random.percent(self.refills) {
             return (refill, Asker::Arbiter);
         }
-        // Half of the bytes that find their queue full stay away, else the arbiter may never come to that queue.
-        let has_room = |&(queue, _): &(usize, u8)| queue >= buffer.sizes.q || !buffer.is_full(queue);
-        (arrival.filter(|byte| has_room(byte) || random.percent(50)), Asker::Arbiter)
+        (arrival, Asker::Arbiter)
     }
 }

@@ -7,19 +7,41 @@ use crate::raw::RawState;
 use crate::rules::{broken_rules, Cell, Fields, Ring};
 use crate::sizes::Sizes;
 
-/// What a slot hands back. A refused slot has only its number.
+/// What a slot hands back. Request 2.5: "5 and 7 refuse their half of the slot only. The slot runs without that half,
+/// and each half has its own answer, so both numbers may come together."
 #[derive(Clone, Copy, Debug, PartialEq, Eq)]
 pub struct Answer {
+    /// 0 where the slot is accepted, with a dropped half or without; else what stops it.
     pub number: u8,
+    /// 5 where the arrival is dropped.
+    pub arrival_number: u8,
+    /// 7 where the request is dropped.
+    pub request_number: u8,
     pub delivered: Option<(usize, u8)>,
     pub written: Option<usize>,
     pub read: Option<usize>,
 }
 
+/// The number of a slot, of its arrival and of its request.
+pub type Numbers = [u8; 3];
+
 impl Answer {
-    pub fn refused(number: u8) -> Answer {
-        Answer { number, delivered: None, written: None, read: None }
+    /// "Every other refusal still stops the slot and is then its only answer."
+    pub fn stopped(number: u8) -> Answer {
+        Answer { number, arrival_number: 0, request_number: 0, delivered: None, written: None, read: None }
     }
+
+    pub fn numbers(&self) -> Numbers {
+        [self.number, self.arrival_number, self.request_number]
+    }
+}
+
+/// The halves of a call that 5 and 7 leave, and the numbers of those that they drop.
+struct Halves {
+    arrival: Option<(usize, u8)>,
+    arrival_number: u8,
+    request: Option<usize>,
+    request_number: u8,
 }
 
 /// What a slot meets that reads and refills one full queue (request 2.1).
@@ -118,7 +140,7 @@ impl Buffer {
         }
     }
 
-    /// One slot, in which the caller asks. Refused: neither the state nor the store has changed.
+    /// One slot, in which the caller asks. Stopped: neither the state nor the store has changed.
     pub fn slot(
         &mut self,
         expected_cells: usize,
@@ -126,19 +148,24 @@ impl Buffer {
         request: Option<usize>,
         store: &mut [u8],
     ) -> Answer {
-        if let Some(number) = self.refusal_before(expected_cells, arrival, request, store.len()) {
-            return Answer::refused(number);
+        if let Some(number) = self.stop_by_call(expected_cells, arrival, request, store.len()) {
+            return Answer::stopped(number);
+        }
+        let swaps = self.swaps(arrival, request);
+        let halves = self.halves_left(arrival, request);
+        if let Some(number) = self.stop_by_halves(&halves, swaps) {
+            return Answer::stopped(number);
         }
 
         // The steps work on a copy, so that refusal 10 has nothing to undo.
         let mut next = self.clone();
         let delivered = next.deliver_oldest_cell();
-        if self.swaps(arrival, request) {
-            next.take_youngest_cell(request);
-            next.join_tail(arrival);
+        if swaps {
+            next.take_youngest_cell(halves.request);
+            next.join_tail(halves.arrival);
         } else {
-            next.join_tail(arrival);
-            next.take_youngest_cell(request);
+            next.join_tail(halves.arrival);
+            next.take_youngest_cell(halves.request);
         }
         let mut written = None;
         let mut read = None;
@@ -146,7 +173,7 @@ impl Buffer {
             let block = next.take_block_to_write();
             read = next.first_uncovered_queue();
             if read.is_some() && fill(&next.head) + next.sizes.b > next.sizes.head_size() {
-                return Answer::refused(10);
+                return Answer::stopped(10);
             }
             // Past the last refusal: from here on the store may change.
             if let Some(block) = block {
@@ -162,11 +189,13 @@ impl Buffer {
         next.head_mark = next.head_mark.max(fill(&next.head));
         next.phase = (next.phase + 1) % next.sizes.b;
         *self = next;
-        Answer { number: 0, delivered, written, read }
+        let Halves { arrival_number, request_number, .. } = halves;
+        Answer { number: 0, arrival_number, request_number, delivered, written, read }
     }
 
     /// Request 2.1: "Where the arrival's queue is full, the request is for that queue, the request would be Held, and
-    /// the tail already has a byte of it, take the request before the arrival." Judged on the state as handed in.
+    /// the tail already has a byte of it, take the request before the arrival." Judged on the call as it came and the
+    /// state as handed in. Such a slot has no dropped half: its arrival is taken, and its request finds a byte.
     pub fn swaps(&self, arrival: Option<(usize, u8)>, request: Option<usize>) -> bool {
         self.refill(arrival, request) == Some(Refill::Swap)
     }
@@ -207,44 +236,55 @@ impl Buffer {
         None
     }
 
-    /// Refusals 3, 2 and 4 to 9, on the state as handed in.
-    fn refusal_before(
+    /// Refusals 3, 2, 4 and 6: they look at the call as it came.
+    fn stop_by_call(
         &self,
         expected_cells: usize,
         arrival: Option<(usize, u8)>,
         request: Option<usize>,
         store_length: usize,
     ) -> Option<u8> {
-        let sizes = self.sizes;
         let of_state = self.refusal_of_state(expected_cells, store_length);
         if of_state.is_some() {
             return of_state;
         }
-        if let Some((queue, _)) = arrival {
-            if queue >= sizes.q {
-                return Some(4);
-            }
-            if self.is_full(queue) && !self.swaps(arrival, request) {
-                return Some(5);
-            }
+        if arrival.is_some_and(|(queue, _)| queue >= self.sizes.q) {
+            return Some(4);
         }
-        if let Some(queue) = request {
-            if queue >= sizes.q {
-                return Some(6);
-            }
-            let arrives_now = matches!(arrival, Some((arriving, _)) if arriving == queue);
-            if !self.would_be_owed(queue) && self.tail[queue].is_empty() && !arrives_now {
-                return Some(7);
-            }
+        if request.is_some_and(|queue| queue >= self.sizes.q) {
+            return Some(6);
         }
+        None
+    }
+
+    /// Refusals 5 and 7, each of its half. "A dropped half is absent for every later test, so 7 is judged without a
+    /// dropped arrival."
+    fn halves_left(&self, arrival: Option<(usize, u8)>, request: Option<usize>) -> Halves {
+        let finds_no_room = |&(queue, _): &(usize, u8)| self.is_full(queue) && !self.swaps(arrival, request);
+        let arrival_dropped = arrival.as_ref().is_some_and(finds_no_room);
+        let arrival = arrival.filter(|_| !arrival_dropped);
+
+        let arrives_now = |queue: usize| matches!(arrival, Some((arriving, _)) if arriving == queue);
+        let finds_no_byte =
+            |queue: usize| !self.would_be_owed(queue) && self.tail[queue].is_empty() && !arrives_now(queue);
+        let request_dropped = request.is_some_and(finds_no_byte);
+        Halves {
+            arrival,
+            arrival_number: if arrival_dropped { 5 } else { 0 },
+            request: request.filter(|_| !request_dropped),
+            request_number: if request_dropped { 7 } else { 0 },
+        }
+    }
+
+    /// Refusals 8 and 9, on the state as handed in and what is left of the call.
+    fn stop_by_halves(&self, halves: &Halves, swaps: bool) -> Option<u8> {
         if let Some(&Cell::Owed(queue)) = self.cells.front() {
             if self.head[queue].is_empty() {
                 return Some(8);
             }
         }
         // In a swap "9 looks at the tail after the request", which took a byte out of it.
-        let taken = usize::from(self.swaps(arrival, request));
-        if arrival.is_some() && fill(&self.tail) - taken == sizes.tail_size() {
+        if halves.arrival.is_some() && fill(&self.tail) - usize::from(swaps) == self.sizes.tail_size() {
             return Some(9);
         }
         None
@@ -305,7 +345,8 @@ impl Buffer {
     }
 
     /// Step 2. Request 2.8: the tail is looked at just after the arrival joins it, so a byte that the request takes
-    /// afterwards counts too. Without an arrival nothing rises, since the mark is at least the fill already.
+    /// afterwards counts too. Without an arrival, and so with a dropped one, nothing rises, since the mark is at least
+    /// the fill already.
     fn join_tail(&mut self, arrival: Option<(usize, u8)>) {
         if let Some((queue, byte)) = arrival {
             let sequence = self.take_sequence();

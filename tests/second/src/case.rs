@@ -4,7 +4,7 @@ use std::collections::BTreeMap;
 
 use crate::arbiter::Asker;
 use crate::breaks::{Break, ALL};
-use crate::buffer::{Answer, Buffer};
+use crate::buffer::{Answer, Buffer, Numbers};
 use crate::lines::{design_word, print_answer, print_call, print_sizes, print_state, print_store};
 use crate::random::Random;
 use crate::raw::RawState;
@@ -77,7 +77,7 @@ fn print_case(number: usize, case: &Case, outcome: &Outcome) {
 /// What occurred how often, for the summary on standard error.
 #[derive(Default)]
 struct Tally {
-    answers: BTreeMap<u8, usize>,
+    answers: BTreeMap<Numbers, usize>,
     rules: BTreeMap<String, usize>,
     events: BTreeMap<&'static str, usize>,
 }
@@ -85,7 +85,7 @@ struct Tally {
 impl Tally {
     fn add(&mut self, case: &Case, outcome: &Outcome) {
         let answer = &outcome.answer;
-        *self.answers.entry(answer.number).or_default() += 1;
+        *self.answers.entry(answer.numbers()).or_default() += 1;
         let broken = case.state.broken_rules(case.design.cells(case.state.sizes));
         if !broken.is_empty() {
             *self.rules.entry(broken.join(" + ")).or_default() += 1;
@@ -98,17 +98,36 @@ impl Tally {
         self.event("accepted, Owed delivered", accepted && matches!(oldest, Some(Cell::Owed(_))));
         self.event("accepted, youngest Held", accepted && matches!(outcome.state.cells.last(), Some(Cell::Held(..))));
         self.event("accepted, youngest Owed", accepted && matches!(outcome.state.cells.last(), Some(Cell::Owed(_))));
-        let swaps = accepted && Buffer::from_raw(&case.state).swaps(case.arrival, outcome.request);
-        let tail_full = case.state.tail.len() == case.state.sizes.tail_size();
-        self.event("accepted, swap", swaps);
-        self.event("accepted, swap in a full tail", swaps && tail_full);
         self.event("accepted, block written", answer.written.is_some());
         self.event("accepted, block read", answer.read.is_some());
         self.event("accepted, written and read", answer.written.is_some() && answer.read.is_some());
         self.event("accepted, read from last ring place", answer.read.map_or(false, wraps));
+        if broken.is_empty() {
+            self.add_full_queue(case, answer);
+        }
         if case.asker == Asker::Arbiter && broken.is_empty() {
             self.add_turn(case, outcome);
         }
+    }
+
+    /// What an arrival to a full queue meets, on a state that keeps the rules.
+    fn add_full_queue(&mut self, case: &Case, answer: &Answer) {
+        let buffer = Buffer::from_raw(&case.state);
+        let request = match case.asker {
+            Asker::Caller(request) => request,
+            Asker::Arbiter => buffer.choice(case.arrival),
+        };
+        let swaps = buffer.swaps(case.arrival, request);
+        let swapped = answer.number == 0 && swaps;
+        let dropped = answer.arrival_number == 5;
+        let tail_full = buffer.tail_is_full();
+        self.event("accepted, swap", swapped);
+        self.event("accepted, swap in a full tail", swapped && tail_full);
+        self.event("5 in a full tail", dropped && tail_full);
+        self.event("5 and a delivery", dropped && answer.delivered.is_some());
+        self.event("5 and a block read", dropped && answer.read.is_some());
+        let full = case.arrival.is_some_and(|(queue, _)| queue < case.state.sizes.q && buffer.is_full(queue));
+        self.event("5 hidden by 6, 8 or 10", answer.number >= 6 && full && !swaps);
     }
 
     /// An arbiter's slot on a state that keeps the rules.
@@ -123,7 +142,7 @@ impl Tally {
         self.event("arbiter, a lower queue asked", asked.map_or(false, |queue| queue < last));
         self.event("arbiter, the same queue asked again", asked == Some(last));
         self.event("arbiter, asked since a byte arrives", asked.is_some() && asked != without_arrival);
-        let full = outcome.answer.number == 5;
+        let full = outcome.answer.arrival_number == 5;
         let chosen = buffer.choice(case.arrival);
         let of_arrival = chosen.is_some() && chosen == case.arrival.map(|(queue, _)| queue);
         self.event("arbiter, 5 with nothing chosen", full && chosen.is_none());
@@ -136,8 +155,8 @@ impl Tally {
     }
 
     fn print(&self) {
-        for (number, count) in &self.answers {
-            eprintln!("answer {number}: {count}");
+        for ([slot, arrival, request], count) in &self.answers {
+            eprintln!("answer {slot} {arrival} {request}: {count}");
         }
         for (rule, count) in &self.rules {
             eprintln!("broken {rule}: {count}");

@@ -2,6 +2,7 @@
 
 use crate::arbiter::Asker;
 use crate::breaks::{broken_state, Break};
+use crate::buffer::Numbers;
 use crate::case::{print_drawn_cases, Case};
 use crate::full_queue::state_with_full_queue;
 use crate::random::Random;
@@ -12,27 +13,36 @@ pub fn print_cases(seed: u64, count: usize) {
     print_drawn_cases(seed, count, |random, broken| match broken {
         Some(which) => breaking_case(random, which),
         None if random.percent(12) => refilling_case(random),
+        None if random.percent(15) => full_queue_case(random),
         None => {
-            let goal = random.pick(&[0, 0, 0, 0, 0, 0, 2, 4, 5, 6, 7, 8, 9, 10]);
+            let goal = if random.percent(40) { [0; 3] } else { random.pick(&GOALS) };
             case_with_answer(random, goal, leaning_case)
         }
     });
 }
 
+/// Every stop but 3, and every choice of dropped halves.
+const GOALS: [Numbers; 9] =
+    [[2, 0, 0], [4, 0, 0], [6, 0, 0], [8, 0, 0], [9, 0, 0], [10, 0, 0], [0, 5, 0], [0, 0, 7], [0, 5, 7]];
+
 /// Random cases that lean towards an answer until one gives it. The answer
 /// only guides what is picked: a case that misses its goal is as good a case.
-pub(crate) fn case_with_answer(random: &mut Random, goal: u8, leaning: impl Fn(&mut Random, u8) -> Case) -> Case {
+pub(crate) fn case_with_answer(
+    random: &mut Random,
+    goal: Numbers,
+    leaning: impl Fn(&mut Random, Numbers) -> Case,
+) -> Case {
     let mut tries = 0;
     loop {
         let case = leaning(random, goal);
         tries += 1;
-        if tries == 300 || case.run().answer.number == goal {
+        if tries == 300 || case.run().answer.numbers() == goal {
             return case;
         }
     }
 }
 
-fn leaning_case(random: &mut Random, goal: u8) -> Case {
+fn leaning_case(random: &mut Random, goal: Numbers) -> Case {
     let design = random_design(random);
     let sizes = random_sizes(random, design);
     let lean = Lean::towards(random, goal);
@@ -48,8 +58,8 @@ fn leaning_case(random: &mut Random, goal: u8) -> Case {
 }
 
 /// Troubles beside the goal stay in, so that the order of refusals shows: their chance in percent.
-pub(crate) fn trouble_beside(goal: u8) -> usize {
-    if goal == 0 {
+pub(crate) fn trouble_beside(goal: Numbers) -> usize {
+    if goal == [0; 3] {
         0
     } else {
         20
@@ -57,8 +67,8 @@ pub(crate) fn trouble_beside(goal: u8) -> usize {
 }
 
 /// Long enough, unless the goal or some trouble wants it one byte short.
-pub(crate) fn random_store(random: &mut Random, sizes: Sizes, goal: u8) -> Vec<u8> {
-    let short = goal == 2 || random.percent(trouble_beside(goal) / 4);
+pub(crate) fn random_store(random: &mut Random, sizes: Sizes, goal: Numbers) -> Vec<u8> {
+    let short = goal == [2, 0, 0] || random.percent(trouble_beside(goal) / 4);
     let length = match short {
         false => sizes.store_size() + random.pick(&[0, 0, 0, 1, 5]),
         true => sizes.store_size() - 1,
@@ -68,17 +78,25 @@ pub(crate) fn random_store(random: &mut Random, sizes: Sizes, goal: u8) -> Vec<u
 
 /// A full queue, read and refilled in one slot (request 2.1).
 fn refilling_case(random: &mut Random) -> Case {
+    let case = full_queue_case(random);
+    let request = case.arrival.map(|(queue, _)| queue);
+    Case { asker: Asker::Caller(request), ..case }
+}
+
+/// An arrival to a full queue, with any request beside it: 5 drops the arrival, or something stops the slot and hides
+/// that (request 2.5).
+fn full_queue_case(random: &mut Random) -> Case {
     let design = random_design(random);
     let sizes = random_sizes(random, design);
-    let goal = random.pick(&[0, 0, 0, 8, 10]);
-    let lean = Lean::towards(random, goal);
+    let stop = random.pick(&[0, 0, 0, 8, 10]);
+    let lean = Lean::towards(random, [stop, 0, 0]);
     let (state, queue) = state_with_full_queue(random, sizes, design.cells(sizes), lean);
     Case {
         design,
         state,
         store: random.bytes(sizes.store_size()),
         arrival: Some((queue, random.byte())),
-        asker: Asker::Caller(Some(queue)),
+        asker: Asker::Caller(random_queue(random, sizes, 10)),
     }
 }
 

@@ -45,7 +45,7 @@ fn rows(sizes: Sizes, calls: &[(Option<(usize, u8)>, Option<usize>)]) -> Vec<Row
         .map(|&(arrival, request)| {
             let phase = buffer.to_raw().phase;
             let answer = buffer.slot(cells, arrival, request, &mut store);
-            assert_eq!(answer.number, 0, "a slot of the table is refused");
+            assert_eq!(answer.numbers(), [0; 3], "a slot of the table is refused, or a half of it");
             Row { arrival, request, phase, answer, state: buffer.to_raw(), store: store.clone() }
         })
         .collect()

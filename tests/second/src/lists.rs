@@ -4,7 +4,7 @@ use std::collections::BTreeMap;
 
 use crate::arbiter::Asker;
 use crate::arbiter_lists::Turns;
-use crate::buffer::Buffer;
+use crate::buffer::{Answer, Buffer, Numbers};
 use crate::lines::{design_word, print_answer, print_call, print_call_of, print_sizes, print_state, print_store};
 use crate::random::Random;
 use crate::raw::RawState;
@@ -12,7 +12,7 @@ use crate::rules::Cell;
 use crate::sizes::{Design, Sizes};
 
 pub fn print_lists(seed: u64, count: usize) {
-    print_lists_of(&Kind { most_queues: 3, full_queues: 30, turns: |_, _| None }, seed, count);
+    print_lists_of(&Kind { most_queues: 3, full_queues: 35, dropped_halves: 20, turns: |_, _| None }, seed, count);
 }
 
 /// What the lists of one command have in common.
@@ -20,8 +20,23 @@ pub(crate) struct Kind {
     pub most_queues: usize,
     /// Chance in percent of a list whose queues are kept full.
     pub full_queues: usize,
+    /// Chance in percent of a list many of whose halves are dropped.
+    pub dropped_halves: usize,
     /// Draws whose slots a list has. None: all are the caller's, and no call tells whose it is.
     pub turns: fn(&mut Random, Sizes) -> Option<Turns>,
+}
+
+impl Kind {
+    fn traffic(&self, random: &mut Random) -> Traffic {
+        let roll = random.below(100);
+        if roll < self.full_queues {
+            Traffic::of_full_queues(random)
+        } else if roll < self.full_queues + self.dropped_halves {
+            Traffic::of_dropped_halves(random)
+        } else {
+            Traffic::random(random)
+        }
+    }
 }
 
 pub(crate) fn print_lists_of(kind: &Kind, seed: u64, count: usize) {
@@ -36,35 +51,35 @@ pub(crate) fn print_lists_of(kind: &Kind, seed: u64, count: usize) {
 /// What occurred how often, for the summary on standard error.
 #[derive(Default)]
 struct Tally {
-    answers: BTreeMap<u8, usize>,
+    answers: BTreeMap<Numbers, usize>,
     swaps: usize,
-    arbiter_answers: BTreeMap<u8, usize>,
+    arbiter_answers: BTreeMap<Numbers, usize>,
     arbiter_asked: usize,
     arbiter_swaps: usize,
 }
 
 impl Tally {
-    fn add(&mut self, asker: Asker, answer: u8, request: Option<usize>, swaps: bool) {
-        let swapped = usize::from(answer == 0 && swaps);
-        *self.answers.entry(answer).or_default() += 1;
+    fn add(&mut self, asker: Asker, answer: &Answer, request: Option<usize>, swaps: bool) {
+        let swapped = usize::from(answer.number == 0 && swaps);
+        *self.answers.entry(answer.numbers()).or_default() += 1;
         self.swaps += swapped;
         if asker == Asker::Arbiter {
-            *self.arbiter_answers.entry(answer).or_default() += 1;
+            *self.arbiter_answers.entry(answer.numbers()).or_default() += 1;
             self.arbiter_asked += usize::from(request.is_some());
             self.arbiter_swaps += swapped;
         }
     }
 
     fn print(&self) {
-        for (answer, count) in &self.answers {
-            eprintln!("answer {answer}: {count}");
+        for ([slot, arrival, request], count) in &self.answers {
+            eprintln!("answer {slot} {arrival} {request}: {count}");
         }
         eprintln!("swaps: {}", self.swaps);
         if self.arbiter_answers.is_empty() {
             return;
         }
-        for (answer, count) in &self.arbiter_answers {
-            eprintln!("arbiter, answer {answer}: {count}");
+        for ([slot, arrival, request], count) in &self.arbiter_answers {
+            eprintln!("arbiter, answer {slot} {arrival} {request}: {count}");
         }
         eprintln!("arbiter, asked: {}", self.arbiter_asked);
         eprintln!("arbiter, swaps: {}", self.arbiter_swaps);
@@ -83,8 +98,7 @@ fn print_list(random: &mut Random, number: usize, kind: &Kind, tally: &mut Tally
     };
     let mut store = random.bytes(store_length);
     let mut buffer = Buffer::fresh(sizes, cells).expect("these sizes are accepted");
-    let full_queues = random.percent(kind.full_queues);
-    let traffic = if full_queues { Traffic::of_full_queues } else { Traffic::random }(random);
+    let traffic = kind.traffic(random);
     let turns = (kind.turns)(random, sizes);
 
     println!("list {number} design {}", design_word(design));
@@ -107,10 +121,11 @@ fn print_list(random: &mut Random, number: usize, kind: &Kind, tally: &mut Tally
         };
         let swaps = found.swaps(arrival, request);
         let after = buffer.to_raw();
-        tally.add(asker, answer.number, request, swaps);
+        tally.add(asker, &answer, request, swaps);
 
-        // A refused slot did not happen, so no byte joined; in a swap one went before.
-        let grown = usize::from(answer.number == 0 && arrival.is_some() && !swaps);
+        // A stopped slot did not happen and a dropped arrival is absent, so no byte joined; in a swap one went before.
+        let joined = answer.numbers()[..2] == [0, 0] && arrival.is_some();
+        let grown = usize::from(joined && !swaps);
         match turns {
             None => print_call(arrival, request),
             Some(_) => print_call_of(asker, arrival, request),
@@ -142,6 +157,8 @@ pub struct Traffic {
     favoured: usize,
     /// Arrivals where there is room, requests where a byte is left to ask for, refills where they swap.
     sensible: usize,
+    /// Arrivals where there is no room and requests where no byte is left to ask for, if there is such a queue.
+    contrary: usize,
     outside: usize,
 }
 
@@ -155,6 +172,7 @@ impl Traffic {
             level: random.percent(25),
             favoured: random.pick(&[0, 0, 50]),
             sensible: random.pick(&[50, 90, 100]),
+            contrary: 0,
             outside: random.pick(&[0, 0, 5]),
         }
     }
@@ -169,7 +187,23 @@ impl Traffic {
             level: random.percent(80),
             favoured: random.pick(&[0, 50, 80]),
             sensible: random.pick(&[80, 95, 100]),
+            contrary: 0,
             outside: 0,
+        }
+    }
+
+    /// 5 and 7 drop many halves (request 2.5).
+    pub fn of_dropped_halves(random: &mut Random) -> Traffic {
+        Traffic {
+            quiet: random.pick(&[0, 4, 8, 15]),
+            arrivals: random.pick(&[80, 100]),
+            requests: random.pick(&[50, 80, 100]),
+            refills: random.pick(&[0, 20]),
+            level: false,
+            favoured: random.pick(&[0, 50, 80]),
+            sensible: random.pick(&[80, 100]),
+            contrary: random.pick(&[20, 40, 60]),
+            outside: random.pick(&[0, 0, 5]),
         }
     }
 
@@ -215,10 +249,13 @@ impl Traffic {
         if !random.percent(self.sensible) {
             return Some(random.below(queues));
         }
-        if random.percent(self.favoured) && makes_sense(favourite) {
+        let (sensible, others): (Vec<usize>, Vec<usize>) = (0..queues).partition(|&queue| makes_sense(queue));
+        if !others.is_empty() && random.percent(self.contrary) {
+            return Some(random.pick(&others));
+        }
+        if random.percent(self.favoured) && sensible.contains(&favourite) {
             return Some(favourite);
         }
-        let sensible: Vec<usize> = (0..queues).filter(|&queue| makes_sense(queue)).collect();
         if sensible.is_empty() {
             return None;
         }

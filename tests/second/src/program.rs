@@ -78,6 +78,8 @@ impl Run {
         Ok(self.swaps)
     }
 
+    /// A slot with a dropped half is accepted, and its R lines carry its own number. The R line of a stopped one has
+    /// the number of the slot that would have run.
     fn slot(
         &mut self,
         arrival: Option<(usize, u8)>,
@@ -92,9 +94,15 @@ impl Run {
         }
         self.accepted += 1;
         self.swaps += usize::from(swaps);
-        match answer.delivered {
-            Some((queue, byte)) => writeln!(output, "D {slot_number} {queue} {byte}"),
-            None => Ok(()),
+        // Request 2.5: "A slot's D line comes before its R lines, 5 before 7."
+        if let Some((queue, byte)) = answer.delivered {
+            writeln!(output, "D {slot_number} {queue} {byte}")?;
         }
+        for half_number in [answer.arrival_number, answer.request_number] {
+            if half_number != 0 {
+                writeln!(output, "R {slot_number} {half_number}")?;
+            }
+        }
+        Ok(())
     }
 }

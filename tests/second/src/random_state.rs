@@ -1,7 +1,8 @@
 //! Random states that keep the rules, reachable or not.
 
-use crate::raw::RawState;
+use crate::buffer::Numbers;
 use crate::random::Random;
+use crate::raw::RawState;
 use crate::rules::{Cell, Ring};
 use crate::sizes::Sizes;
 
@@ -55,28 +56,34 @@ impl Lean {
         }
     }
 
-    /// Leans towards an answer, so that states give it often.
-    pub fn towards(random: &mut Random, goal: u8) -> Lean {
+    /// Leans towards the numbers of an answer, so that states give them often.
+    pub fn towards(random: &mut Random, goal: Numbers) -> Lean {
         let mut lean = Lean::random(random);
-        match goal {
-            5 => lean.blocks = Amount::Full,
-            7 => lean.tail = Amount::Empty,
+        for number in goal {
+            lean.turn_towards(random, number);
+        }
+        lean
+    }
+
+    fn turn_towards(&mut self, random: &mut Random, number: u8) {
+        match number {
+            5 => self.blocks = Amount::Full,
+            7 => self.tail = Amount::Empty,
             8 => {
-                lean.head = random.pick(&[Amount::Empty, Amount::Any]);
-                lean.owed = 80;
+                self.head = random.pick(&[Amount::Empty, Amount::Any]);
+                self.owed = 80;
             }
             9 => {
-                lean.tail = Amount::Full;
-                lean.blocks = random.pick(&[Amount::Empty, Amount::Any]);
+                self.tail = Amount::Full;
+                self.blocks = random.pick(&[Amount::Empty, Amount::Any]);
             }
             10 => {
-                lean.head = Amount::Full;
-                lean.blocks = random.pick(&[Amount::Any, Amount::Full]);
-                lean.owed = 80;
+                self.head = Amount::Full;
+                self.blocks = random.pick(&[Amount::Any, Amount::Full]);
+                self.owed = 80;
             }
             _ => {}
         }
-        lean
     }
 }
 

@@ -47,7 +47,7 @@ impl RawState {
         store: &mut [u8],
     ) -> Answer {
         self.in_queues(expected_cells, |buffer| buffer.slot(expected_cells, arrival, request, store))
-            .unwrap_or(Answer::refused(3))
+            .unwrap_or(Answer::stopped(3))
     }
 
     /// Refusal 3 is judged here, on the lists, since only a state that keeps

@@ -2,12 +2,13 @@
 
 mod arbiter;
 mod captures;
+mod dropped_halves;
 mod high_marks;
 mod swap;
 
 use crate::arbiter::{ArbiterAnswer, Asker};
-use crate::buffer::{Answer, Buffer};
-use crate::lists::{would_swap, Traffic};
+use crate::buffer::{Answer, Buffer, Numbers};
+use crate::lists::{room, unrequested, would_swap, Traffic};
 use crate::program::run_script;
 use crate::random::Random;
 use crate::raw::RawState;
@@ -35,6 +36,11 @@ fn slot(state: &mut RawState, arrival: Option<(usize, u8)>, request: Option<usiz
 fn arbiter_slot(state: &mut RawState, arrival: Option<(usize, u8)>, store: &mut [u8]) -> ArbiterAnswer {
     let cells = Design::Full.cells(state.sizes);
     state.arbiter_slot(cells, arrival, store)
+}
+
+/// The answer of a slot that delivers nothing and moves no block.
+fn moves_nothing([number, arrival_number, request_number]: Numbers) -> Answer {
+    Answer { number, arrival_number, request_number, delivered: None, written: None, read: None }
 }
 
 #[test]
@@ -97,21 +103,21 @@ fn c8_third_arrival_waits_for_the_read() {
     assert_eq!(slot(&mut state, Some((0, 12)), None, &mut store).written, Some(0));
     assert_eq!(store, [11, 12]);
     let before = state.clone();
-    assert_eq!(slot(&mut state, Some((0, 13)), None, &mut store), Answer::refused(5));
-    assert_eq!(state, before);
-    assert_eq!(slot(&mut state, None, Some(0), &mut store).number, 0);
-    assert_eq!(slot(&mut state, None, None, &mut store).read, Some(0));
-    let answer = slot(&mut state, Some((0, 13)), None, &mut store);
-    assert_eq!((answer.number, answer.delivered), (0, Some((0, 11))));
+    assert_eq!(slot(&mut state, Some((0, 13)), None, &mut store), moves_nothing([0, 5, 0]));
+    // The slot has passed, and that is all.
+    assert_eq!(state, RawState { phase: 1, ..before });
+    assert_eq!(slot(&mut state, None, Some(0), &mut store).read, Some(0));
+    assert_eq!(slot(&mut state, Some((0, 13)), None, &mut store), moves_nothing([0; 3]));
+    assert_eq!(slot(&mut state, None, None, &mut store).delivered, Some((0, 11)));
 }
 
 #[test]
 fn c9_request_with_its_own_arrival() {
     let mut state = fresh(1, 2, 1);
     let mut store = [0; 2];
-    assert_eq!(slot(&mut state, None, Some(0), &mut store), Answer::refused(7));
-    assert_eq!(state, fresh(1, 2, 1));
-    assert_eq!(slot(&mut state, Some((0, 9)), Some(0), &mut store).number, 0);
+    assert_eq!(slot(&mut state, None, Some(0), &mut store), moves_nothing([0, 0, 7]));
+    assert_eq!(state, RawState { phase: 1, ..fresh(1, 2, 1) });
+    assert_eq!(slot(&mut state, Some((0, 9)), Some(0), &mut store), moves_nothing([0; 3]));
     assert_eq!(state.cells, [Cell::Empty, Cell::Held(0, 9)]);
     assert!(state.tail.is_empty());
 }
@@ -151,7 +157,7 @@ fn c11_owed_cell_without_head_byte() {
     state.rings[0].count = 1;
     state.cells = vec![Cell::Owed(0), Cell::Empty];
     let before = state.clone();
-    assert_eq!(slot(&mut state, None, None, &mut [5, 6]), Answer::refused(8));
+    assert_eq!(slot(&mut state, None, None, &mut [5, 6]), Answer::stopped(8));
     assert_eq!(state, before);
 }
 
@@ -161,7 +167,7 @@ fn c12_full_tail() {
     state.tail = vec![(0, 1), (0, 2), (0, 3)];
     state.tail_mark = 3;
     let mut store = [0; 4];
-    assert_eq!(slot(&mut state.clone(), Some((0, 4)), None, &mut store), Answer::refused(9));
+    assert_eq!(slot(&mut state.clone(), Some((0, 4)), None, &mut store), Answer::stopped(9));
     // Without an arrival a full tail is no refusal.
     assert_eq!(slot(&mut state.clone(), None, None, &mut store).number, 0);
     assert_eq!(slot(&mut state, None, Some(0), &mut store).number, 0);
@@ -180,11 +186,11 @@ fn c12_head_cannot_take_the_block() {
     state.tail_mark = 2;
     let before = state.clone();
     let mut store = [20, 21, 22, 23];
-    assert_eq!(slot(&mut state, None, None, &mut store), Answer::refused(10));
+    assert_eq!(slot(&mut state, None, None, &mut store), Answer::stopped(10));
     assert_eq!(state, before);
     assert_eq!(store, [20, 21, 22, 23]);
     state.tail.clear();
-    assert_eq!(slot(&mut state, None, None, &mut store), Answer::refused(10));
+    assert_eq!(slot(&mut state, None, None, &mut store), Answer::stopped(10));
 }
 
 #[test]
@@ -197,11 +203,10 @@ fn refusals_come_in_the_order_of_the_paper() {
     state.phase = 0;
     let long = &mut [0; 2];
     assert_eq!(slot(&mut state, Some((1, 0)), Some(1), long).number, 4);
-    assert_eq!(slot(&mut state, Some((0, 0)), Some(1), long).number, 6);
     state.rings[0].count = 1;
-    assert_eq!(slot(&mut state, Some((0, 0)), Some(1), long).number, 5);
     state.cells = vec![Cell::Owed(0), Cell::Owed(0)];
-    assert_eq!(slot(&mut state, None, Some(0), long).number, 7);
+    assert_eq!(slot(&mut state, Some((0, 0)), Some(1), long).number, 6);
+    assert_eq!(slot(&mut state, Some((0, 0)), Some(0), long).number, 8);
     assert_eq!(slot(&mut state, None, None, long).number, 8);
 }
 
@@ -211,13 +216,14 @@ fn printed(script: &[u8]) -> String {
     String::from_utf8(output).expect("plain text")
 }
 
+/// Request 2.5: "The listing in document 01 now ends `D 9 0 67`, `E 10`, its other lines unchanged."
 #[test]
 fn the_listing_of_the_paper() {
     let script = [
         0x10, 0x01, 0x02, 0x02, 0x03, 0x00, 0x41, 0x00, 0x01, 0x00, 0x42, 0x02, 0x00, 0x02, 0x00, 0x01, 0x00, 0x43,
         0x01, 0x00, 0x44, 0x00, 0x02, 0x00, 0x04, 0x02, 0x00, 0x05,
     ];
-    assert_eq!(printed(&script), "D 2 0 65\nR 3 7\nD 4 0 66\nD 8 0 67\nE 9\n");
+    assert_eq!(printed(&script), "D 2 0 65\nR 3 7\nD 4 0 66\nD 9 0 67\nE 10\n");
 }
 
 #[test]
@@ -282,16 +288,22 @@ fn lists_deliver_what_was_asked() {
     }
 }
 
+/// Many queues of these lists are full, and many halves are dropped.
+fn any_traffic(random: &mut Random) -> Traffic {
+    let kinds: [fn(&mut Random) -> Traffic; 3] = [Traffic::random, Traffic::of_full_queues, Traffic::of_dropped_halves];
+    random.pick(&kinds)(random)
+}
+
 /// The arrival of a slot, and who asks in it.
 type Call = (Option<(usize, u8)>, Asker);
 
-/// An accepted slot of a list: whose it is, the state before it, its call and its delivery.
+/// An accepted slot of a list: whose it is, the state before it, the halves of its call that were taken, its answer.
 struct Accepted<'a> {
     asker: Asker,
     before: &'a RawState,
     arrival: Option<(usize, u8)>,
     request: Option<usize>,
-    delivered: Option<(usize, u8)>,
+    answer: &'a Answer,
 }
 
 /// The caller asks in every slot.
@@ -304,7 +316,9 @@ fn callers_call(traffic: &Traffic) -> impl FnMut(&mut Random, usize, &RawState) 
 
 /// A list of 400 slots: who asks is served L slots later, in the order of arrival, both caches hold at all times that
 /// the paper looks at them, and 3, 8, 9 and 10 never come. Neither do 6 and 7 where the arbiter asks, and the last one
-/// asked is the one that it asked for last. `accepted` is told each accepted slot.
+/// asked is the one that it asked for last. 5 and 7 come where there is no room and no byte left, and nowhere else.
+/// "The fixed delay then counts slots with a dropped half as accepted ones, and still concerns only requests and
+/// arrivals that were taken." `accepted` is told each accepted slot.
 fn check_list(
     random: &mut Random,
     sizes: Sizes,
@@ -324,22 +338,28 @@ fn check_list(
         let (answer, request) = match asker {
             Asker::Caller(request) => {
                 let answer = slot(&mut state, arrival, request, &mut store);
-                assert!([0, 4, 5, 6, 7].contains(&answer.number), "{answer:?}");
+                assert!([0, 4, 6].contains(&answer.number), "{answer:?}");
                 (answer, request)
             }
             Asker::Arbiter => {
                 let turn = arbiter_slot(&mut state, arrival, &mut store);
-                assert!([0, 4, 5].contains(&turn.answer.number), "{turn:?}");
+                assert!([0, 4].contains(&turn.answer.number), "{turn:?}");
+                assert_eq!(turn.answer.request_number, 0, "{turn:?}");
                 last_asked = turn.asked.unwrap_or(last_asked);
                 (turn.answer, turn.asked)
             }
         };
         assert_eq!(state.last_asked, last_asked, "{before:?} {arrival:?}");
         if answer.number != 0 {
+            assert_eq!(answer, Answer::stopped(answer.number));
             assert_eq!(state, before);
             continue;
         }
-        accepted(&Accepted { asker, before: &before, arrival, request, delivered: answer.delivered });
+        let half_numbers = [answer.arrival_number, answer.request_number];
+        assert_eq!(half_numbers, dropped(&before, arrival, request), "{before:?} {arrival:?} {request:?}");
+        let arrival = arrival.filter(|_| answer.arrival_number == 0);
+        let request = request.filter(|_| answer.request_number == 0);
+        accepted(&Accepted { asker, before: &before, arrival, request, answer: &answer });
         if let Some((queue, byte)) = arrival {
             arrived[queue].push(byte);
         }
@@ -354,6 +374,18 @@ fn check_list(
     }
 }
 
+/// The numbers of the two halves on the lists of a state that keeps the rules, for queues below Q: 5 where there is no
+/// room, and 7 where no byte is left to ask for, that of an arrival which is taken counted.
+fn dropped(state: &RawState, arrival: Option<(usize, u8)>, request: Option<usize>) -> [u8; 2] {
+    let swaps = is_swap(state, arrival, request);
+    let arriving = arrival.map(|(queue, _)| queue);
+    let taken = arriving.filter(|&queue| swaps || room(state, queue) > 0);
+    let finds_a_byte = |queue: usize| unrequested(state, queue) > 0 || taken == Some(queue);
+    let arrival_dropped = arriving.is_some() && taken.is_none();
+    let request_dropped = request.is_some_and(|queue| !finds_a_byte(queue));
+    [5 * u8::from(arrival_dropped), 7 * u8::from(request_dropped)]
+}
+
 /// The fills that the paper and request 2.8 look at, by the states around a slot and its call alone: what the tail held
 /// and the arrival if it was taken, less the byte that goes before it in a swap; and what the head holds as the slot
 /// ends, since nothing leaves it after the read.
@@ -364,7 +396,7 @@ fn looked_at(
     answer: &Answer,
     after: &RawState,
 ) -> (usize, usize) {
-    let joined = usize::from(answer.number == 0 && arrival.is_some());
+    let joined = usize::from(answer.number == 0 && answer.arrival_number == 0 && arrival.is_some());
     let gone = usize::from(answer.number == 0 && is_swap(before, arrival, request));
     (before.tail.len() + joined - gone, after.head.len())
 }

@@ -2,7 +2,10 @@
 
 use std::fmt;
 
+use gelwynnar::Answer;
+
 use crate::refilled::Met;
+use crate::words::ARRIVAL_DROPPED;
 
 /// What an arbiter's slot meets, in a state that keeps the rules.
 #[derive(Clone, Copy)]
@@ -12,8 +15,6 @@ pub struct Turn {
     pub chosen: Option<usize>,
     /// What it would choose without the arrival.
     pub waiting: Option<usize>,
-    /// Whether the arrival's queue is full.
-    pub full: bool,
     /// What the slot meets with the chosen request.
     pub met: Met,
 }
@@ -33,8 +34,8 @@ pub enum Arbitrated {
     Wraps,
     /// Asks for a queue which the arrival alone has brought to its turn.
     AsksTheArriving,
-    /// Refused with 5: the arrival does not count, and no queue has a byte, or another one is asked. From a fresh state
-    /// the first does not come: blocks are read as fast as their bytes are asked for.
+    /// The arrival is dropped with 5 and does not count, and no queue has a byte, or another one is asked. From a fresh
+    /// state the first does not come: blocks are read as fast as their bytes are asked for.
     FullAndAsksNone,
     FullAndAsksAnother,
 }
@@ -58,25 +59,32 @@ impl Arbitrated {
 }
 
 impl Turn {
-    /// Nothing where another refusal than 5 comes.
-    pub fn comes_to(&self, number: u8) -> Vec<Arbitrated> {
+    /// Nothing where the slot is stopped.
+    pub fn comes_to(&self, answer: Answer) -> Vec<Arbitrated> {
         let mut all = Vec::new();
-        match (number, self.chosen) {
-            (0, None) => all.push(Arbitrated::AsksNone),
-            (0, Some(queue)) => {
+        if answer.number != 0 {
+            return all;
+        }
+        let dropped = answer.dropped & ARRIVAL_DROPPED != 0;
+        match self.chosen {
+            None => {
+                all.push(Arbitrated::AsksNone);
+                if dropped {
+                    all.push(Arbitrated::FullAndAsksNone);
+                }
+            }
+            Some(queue) => {
                 if self.queues > 1 {
                     all.extend(self.way_to(queue));
                 }
                 if self.chosen != self.waiting {
                     all.push(Arbitrated::AsksTheArriving);
                 }
+                // Not so where the arrival's own queue is asked and does not swap: that is of `Refilled`.
+                if dropped && self.met.refill.is_none() {
+                    all.push(Arbitrated::FullAndAsksAnother);
+                }
             }
-            (5, None) if self.full => all.push(Arbitrated::FullAndAsksNone),
-            // Not so where the arrival's own queue is asked and does not swap: that is of `Refilled`.
-            (5, Some(_)) if self.full && self.met.refill.is_none() => {
-                all.push(Arbitrated::FullAndAsksAnother)
-            }
-            _ => {}
         }
         all
     }

@@ -6,8 +6,7 @@ use gelwynnar::ArbiterAnswer;
 use second::raw::RawState;
 
 use crate::image::{Counts, Places};
-use crate::seen::NEVER_THE_ARBITERS;
-use crate::words::Arrival;
+use crate::words::{Arrival, REQUEST_DROPPED};
 
 /// No difference, or the first one as an error.
 pub fn same(difference: Option<String>) -> Result<(), String> {
@@ -17,7 +16,8 @@ pub fn same(difference: Option<String>) -> Result<(), String> {
     }
 }
 
-/// An arbiter's slot with this arrival answers as expected, and with no number that can be of a caller's request only.
+/// An arbiter's slot with this arrival answers as expected, and with no number that can be of a caller's request only:
+/// the arbiter asks for no unknown queue, and for none without a byte.
 pub fn arbiter_answers(
     arrival: Arrival,
     found: ArbiterAnswer,
@@ -26,8 +26,8 @@ pub fn arbiter_answers(
     if found != expected {
         return Err(format!("arrival {arrival:?} answers {found:?}, expected {expected:?}"));
     }
-    if NEVER_THE_ARBITERS.contains(&found.slot.number) {
-        return Err(format!("arrival {arrival:?} answers {}, which never comes", found.slot.number));
+    if found.slot.number == 6 || found.slot.dropped & REQUEST_DROPPED != 0 {
+        return Err(format!("arrival {arrival:?} answers {found:?}, and 6 and 7 never come"));
     }
     Ok(())
 }

@@ -17,10 +17,10 @@ use crate::words::{self, Arrival, Call, IDLE};
 #[derive(Clone)]
 pub struct Expected {
     sizes: Sizes,
-    /// None where the state breaks a rule: every slot is refused then, and nothing changes.
+    /// None where the state breaks a rule: every slot is stopped then, and nothing changes.
     buffer: Option<Buffer>,
     store: Vec<u8>,
-    /// How many slots were accepted.
+    /// How many slots were accepted, with a dropped half or without.
     accepted: usize,
     /// The queue that the arbiter asked last.
     last_asked: usize,
@@ -55,17 +55,16 @@ impl Expected {
             last_asked: self.last_asked,
             chosen,
             waiting: buffer.choice(None),
-            full: arrival.is_some_and(|(queue, _)| buffer.refill(arrival, Some(queue)).is_some()),
             met: self.meets((arrival, chosen)),
         })
     }
 
-    /// A call that reads and refills a full queue and swaps, where there is one.
-    pub fn some_swap(&self, random: &mut Random) -> Option<Call> {
+    /// A call that reads and refills a full queue and meets this, where there is one.
+    pub fn some_refill(&self, random: &mut Random, sought: Refill) -> Option<Call> {
         let first = random.below(self.sizes.q);
         let byte = random.byte();
         let mut calls = (first..self.sizes.q).chain(0..first).map(|queue| (Some((queue, byte)), Some(queue)));
-        calls.find(|&call| self.meets(call).refill == Some(Refill::Swap))
+        calls.find(|&call| self.meets(call).refill == Some(sought))
     }
 
     pub fn slot(&mut self, call: Call) -> Answer {
@@ -79,7 +78,7 @@ impl Expected {
                 let cells = Design::Full.cells(self.sizes);
                 buffer.slot(cells, arrival, request, &mut self.store[..store_bytes])
             }
-            None => buffer::Answer::refused(3),
+            None => buffer::Answer::stopped(3),
         };
         self.accepted += usize::from(answer.number == 0);
         words::answer(answer)
@@ -96,7 +95,7 @@ impl Expected {
                 let cells = Design::Full.cells(self.sizes);
                 buffer.arbiter_slot(cells, arrival, &mut self.store[..store_bytes])
             }
-            None => arbiter::ArbiterAnswer::refused(3),
+            None => arbiter::ArbiterAnswer::stopped(3),
         };
         self.accepted += usize::from(found.answer.number == 0);
         self.last_asked = found.asked.unwrap_or(self.last_asked);

@@ -3,6 +3,7 @@
 //! passes over, states with one fault, states with a few numbers changed, and any numbers at all.
 
 use gelwynnar::{reg, REGS};
+use second::buffer::Numbers;
 use second::full_queue::state_with_full_queue;
 use second::random::Random;
 use second::random_state::{random_state, Amount, Lean};
@@ -24,13 +25,17 @@ pub struct Handed {
     pub fault: Option<Fault>,
 }
 
+/// The numbers of a slot, of its arrival and of its request: every stop but 3, and every choice of dropped halves.
+const GOALS: [Numbers; 9] =
+    [[2, 0, 0], [4, 0, 0], [6, 0, 0], [8, 0, 0], [9, 0, 0], [10, 0, 0], [0, 5, 0], [0, 0, 7], [0, 5, 7]];
+
 /// So many states are tried for one that gives the answer that it leans towards.
 const TRIES: usize = 100;
 
 pub fn handed(random: &mut Random) -> Handed {
     match random.below(100) {
         0..=39 => {
-            let goal = random.pick(&[0, 0, 0, 0, 0, 0, 2, 4, 5, 6, 7, 8, 9, 10]);
+            let goal = if random.percent(40) { [0; 3] } else { random.pick(&GOALS) };
             leaning(random, goal)
         }
         40..=53 => refilled(random),
@@ -45,10 +50,10 @@ pub fn handed(random: &mut Random) -> Handed {
 }
 
 /// A state that keeps the rules. The answer only guides what is picked: a state that misses it is as good a state.
-fn leaning(random: &mut Random, goal: u8) -> Handed {
+fn leaning(random: &mut Random, goal: Numbers) -> Handed {
     let outside = match goal {
-        0 => 0,
-        4 | 6 => 40,
+        [0, 0, 0] => 0,
+        [4 | 6, ..] => 40,
         _ => 10,
     };
     let mut tries = 0;
@@ -62,9 +67,9 @@ fn leaning(random: &mut Random, goal: u8) -> Handed {
         }
         let call = some_call(random, sizes, outside);
         // Troubles beside the goal stay in, so that the order of refusals shows.
-        let short = goal == 2 || goal != 0 && random.percent(5);
+        let short = goal[0] == 2 || goal != [0; 3] && random.percent(5);
         let store = some_store(random, sizes, short);
-        if is_large(sizes) || tries == TRIES || number(&state, call, store.clone()) == goal {
+        if is_large(sizes) || tries == TRIES || numbers(&state, call, store.clone()) == goal {
             let image = Image { store, ..Image::of_state(random, &state) };
             return Handed { image, call, fault: None };
         }
@@ -79,7 +84,7 @@ fn refilled(random: &mut Random) -> Handed {
     loop {
         tries += 1;
         let sizes = shallow_sizes(random);
-        let lean = Lean::towards(random, goal.number());
+        let lean = Lean::towards(random, goal.numbers());
         let (mut state, queue) = state_with_full_queue(random, sizes, Design::Full.cells(sizes), lean);
         if random.percent(30) {
             to_ring_ends(random, &mut state);
@@ -93,7 +98,7 @@ fn refilled(random: &mut Random) -> Handed {
         let store = some_store(random, sizes, short);
         let mut expected = Expected::new(&state, &store);
         let met = expected.meets(call);
-        if is_large(sizes) || tries == TRIES || met.comes_to(expected.slot(call).number) == Some(goal) {
+        if is_large(sizes) || tries == TRIES || met.comes_to(expected.slot(call)) == Some(goal) {
             let image = Image { store, ..Image::of_state(random, &state) };
             return Handed { image, call, fault: None };
         }
@@ -103,7 +108,9 @@ fn refilled(random: &mut Random) -> Handed {
 /// A state in which some queues have no byte to ask for, and one may be full. What is to come of an arbiter's slot
 /// (request 2.2) only guides what is picked, as above.
 fn arbitrated(random: &mut Random) -> Handed {
-    let goal = random.pick(&Arbitrated::ALL);
+    // 8 or 10 often stops the slot that nothing is to be asked in, since all that is owed is in the store.
+    let rare = random.percent(25);
+    let goal = if rare { Arbitrated::FullAndAsksNone } else { random.pick(&Arbitrated::ALL) };
     let mut tries = 0;
     loop {
         tries += 1;
@@ -130,8 +137,8 @@ fn arbitrated(random: &mut Random) -> Handed {
         let store = some_store(random, sizes, false);
         let mut expected = Expected::new(&state, &store);
         let turn = expected.turn(arrival).expect("a state that keeps the rules");
-        let number = expected.arbiter_slot(arrival).slot.number;
-        if is_large(sizes) || tries == TRIES || turn.comes_to(number).contains(&goal) {
+        let answer = expected.arbiter_slot(arrival).slot;
+        if is_large(sizes) || tries == TRIES || turn.comes_to(answer).contains(&goal) {
             let image = Image { store, ..Image::of_state(random, &state) };
             return Handed { image, call: (arrival, request), fault: None };
         }
@@ -158,10 +165,10 @@ fn leave_nothing(random: &mut Random, state: &mut RawState, queue: usize) {
     }
 }
 
-fn lean(random: &mut Random, goal: u8) -> Lean {
+fn lean(random: &mut Random, goal: Numbers) -> Lean {
     let mut lean = Lean::towards(random, goal);
     // Few cells and no block to write, so that idle slots go on for a while.
-    if goal == 0 && random.percent(30) {
+    if goal == [0; 3] && random.percent(30) {
         lean.tail = Amount::Empty;
         lean.owed = random.below(8);
         lean.held = random.below(4);
@@ -176,8 +183,8 @@ fn to_ring_ends(random: &mut Random, state: &mut RawState) {
     }
 }
 
-fn number(state: &RawState, (arrival, request): Call, mut store: Vec<u8>) -> u8 {
-    state.clone().slot(Design::Full.cells(state.sizes), arrival, request, &mut store).number
+fn numbers(state: &RawState, (arrival, request): Call, mut store: Vec<u8>) -> Numbers {
+    state.clone().slot(Design::Full.cells(state.sizes), arrival, request, &mut store).numbers()
 }
 
 fn faulty(random: &mut Random, fault: Fault) -> Handed {
@@ -191,7 +198,7 @@ fn faulty(random: &mut Random, fault: Fault) -> Handed {
 
 /// A state that kept the rules, with some numbers changed: it may still keep them, or break more than one.
 fn changed(random: &mut Random) -> Handed {
-    let mut handed = leaning(random, 0);
+    let mut handed = leaning(random, [0; 3]);
     for _ in 0..random.between(1, 3) {
         change(random, &mut handed.image);
     }

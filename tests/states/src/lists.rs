@@ -71,14 +71,21 @@ struct List<'a> {
 }
 
 pub fn check(edge: Edge, memory: &mut Memory, random: &mut Random, seen: &mut Seen) -> Result<(), String> {
-    let full_queues = random.percent(40);
-    let sizes = if full_queues { shallow_sizes(random) } else { some_sizes(random) };
+    let roll = random.below(100);
+    let (full_queues, dropped_halves) = (roll < 40, (40..75).contains(&roll));
+    let sizes = if full_queues || dropped_halves { shallow_sizes(random) } else { some_sizes(random) };
     let store_bytes = sizes.store_size() + random.pick(&[0, 0, 1, 7]);
     let store = random.bytes(store_bytes);
     let fresh = fresh::open(sizes, store, edge, memory, random);
     let fresh = fresh.map_err(|what| format!("{sizes:?}, open: {what}"))?;
     let expected = Expected::fresh(sizes, &fresh.store);
-    let traffic = if full_queues { Traffic::of_full_queues } else { Traffic::random }(random);
+    let traffic = if full_queues {
+        Traffic::of_full_queues(random)
+    } else if dropped_halves {
+        Traffic::of_dropped_halves(random)
+    } else {
+        Traffic::random(random)
+    };
     let calls = if is_large(sizes) { CALLS_AT_LARGE_SIZES } else { CALLS + CALLS_FOR_A_QUEUE * sizes.q };
     let order = Order::random(random, sizes, full_queues);
     let refills = if full_queues { 100 } else { random.pick(&[0, 50, 100]) };
@@ -198,7 +205,7 @@ impl List<'_> {
         self.arbiter_answered(arrival, found, answer, &before)
     }
 
-    /// One slot's answer. A refused slot leaves every byte, also those past a fill.
+    /// One slot's answer. A stopped slot leaves every byte, also those past a fill.
     fn answered(
         &mut self,
         call: Call,
@@ -210,7 +217,7 @@ impl List<'_> {
             return Err(format!("{call:?} answers {found:?}, expected {answer:?}"));
         }
         self.waits.callers(call.0, call.1, found)?;
-        self.unchanged_if_refused(found, before)
+        self.unchanged_if_stopped(found, before)
     }
 
     /// The same of a slot in which the arbiter chooses.
@@ -223,10 +230,10 @@ impl List<'_> {
     ) -> Result<(), String> {
         difference::arbiter_answers(arrival, found, answer)?;
         self.waits.arbiters(arrival, found)?;
-        self.unchanged_if_refused(found.slot, before)
+        self.unchanged_if_stopped(found.slot, before)
     }
 
-    fn unchanged_if_refused(&mut self, found: gelwynnar::Answer, before: &Image) -> Result<(), String> {
+    fn unchanged_if_stopped(&mut self, found: gelwynnar::Answer, before: &Image) -> Result<(), String> {
         if found.number == 0 {
             return Ok(());
         }

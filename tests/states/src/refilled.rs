@@ -2,7 +2,10 @@
 
 use std::fmt;
 
-use second::buffer::Refill;
+use gelwynnar::Answer;
+use second::buffer::{Numbers, Refill};
+
+use crate::words;
 
 /// What a slot meets.
 #[derive(Clone, Copy, Default)]
@@ -18,10 +21,11 @@ pub enum Refilled {
     Swaps,
     /// 9 looks at the tail after the request.
     SwapsInFullTail,
-    /// The slot would swap, and is refused with 8 or 10.
+    /// The slot would swap, and is stopped by 8 or 10.
     Misses,
     CannotRead,
-    /// Refused with 5, since the request would be Owed, or the tail has no byte of the queue.
+    /// The arrival is dropped with 5, since the request would be Owed; or both halves are dropped, since the tail has
+    /// no byte of the queue, and 7 is judged without the arrival.
     WouldBeOwed,
     HasNoTailByte,
 }
@@ -36,29 +40,31 @@ impl Refilled {
         Refilled::HasNoTailByte,
     ];
 
-    /// The slot's number.
-    pub fn number(self) -> u8 {
+    /// The numbers of the slot, of its arrival and of its request.
+    pub fn numbers(self) -> Numbers {
         match self {
-            Refilled::Swaps | Refilled::SwapsInFullTail => 0,
-            Refilled::Misses => 8,
-            Refilled::CannotRead => 10,
-            Refilled::WouldBeOwed | Refilled::HasNoTailByte => 5,
+            Refilled::Swaps | Refilled::SwapsInFullTail => [0, 0, 0],
+            Refilled::Misses => [8, 0, 0],
+            Refilled::CannotRead => [10, 0, 0],
+            Refilled::WouldBeOwed => [0, 5, 0],
+            Refilled::HasNoTailByte => [0, 5, 7],
         }
     }
 }
 
 impl Met {
-    /// None where another refusal comes first.
-    pub fn comes_to(self, number: u8) -> Option<Refilled> {
-        match (self.refill?, number) {
-            (Refill::Swap, 0) if self.tail_full => Some(Refilled::SwapsInFullTail),
-            (Refill::Swap, 0) => Some(Refilled::Swaps),
-            (Refill::Swap, 8) => Some(Refilled::Misses),
-            (Refill::Swap, 10) => Some(Refilled::CannotRead),
-            (Refill::Owed, 5) => Some(Refilled::WouldBeOwed),
-            (Refill::NoTailByte, 5) => Some(Refilled::HasNoTailByte),
-            _ => None,
-        }
+    /// None where something else stops the slot.
+    pub fn comes_to(self, answer: Answer) -> Option<Refilled> {
+        let refilled = match (self.refill?, answer.number) {
+            (Refill::Swap, 0) if self.tail_full => Refilled::SwapsInFullTail,
+            (Refill::Swap, 0) => Refilled::Swaps,
+            (Refill::Swap, 8) => Refilled::Misses,
+            (Refill::Swap, 10) => Refilled::CannotRead,
+            (Refill::Owed, 0) => Refilled::WouldBeOwed,
+            (Refill::NoTailByte, 0) => Refilled::HasNoTailByte,
+            _ => return None,
+        };
+        (words::numbers(answer) == refilled.numbers()).then_some(refilled)
     }
 }
 

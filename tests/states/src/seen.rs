@@ -1,15 +1,17 @@
-//! How often each number, each broken rule, each call, each outcome of a full queue that is read and refilled and each
+//! How often each answer, each broken rule, each call, each outcome of a full queue that is read and refilled and each
 //! outcome of the arbiter's choice came. What came too seldom has not been tested.
 
 use std::collections::BTreeMap;
 use std::fmt;
 
 use gelwynnar::{Answer, ArbiterAnswer};
+use second::buffer::Numbers;
 
 use crate::arbitrated::{Arbitrated, Turn};
 use crate::faults::Fault;
 use crate::refilled::{Met, Refilled};
 use crate::waits::{Waited, MANY};
+use crate::words;
 
 /// As many states as the least counts below are meant for.
 pub const USUAL_STATES: usize = 20_000;
@@ -25,22 +27,34 @@ const MOVES: [&str; 3] = ["delivers", "writes", "reads"];
 /// What must come of slots of one kind.
 struct Due {
     kind: &'static str,
-    /// What they answer: 1 is of making, 11 and more are of other calls.
+    /// What stops them, or 0: 1 is of making, 11 and more are of other calls.
     numbers: &'static [u8],
+    /// The numbers of the arrivals and requests that are dropped, where none stops the slot (request 2.5).
+    dropped: &'static [[u8; 2]],
     /// What comes of a full queue that is read and refilled.
     refills: &'static [Refilled],
     /// What comes of the arbiter's choice.
     turns: &'static [Arbitrated],
 }
 
-const OF_SLOTS: Due =
-    Due { kind: "slot", numbers: &[0, 2, 3, 4, 5, 6, 7, 8, 9, 10], refills: &Refilled::ALL, turns: &[] };
+/// Every choice of dropped halves; and those of the arbiter, which asks for no queue without a byte.
+const DROPPED: &[[u8; 2]] = &[[5, 0], [0, 7], [5, 7]];
+const DROPPED_BESIDE_THE_ARBITER: &[[u8; 2]] = &[[5, 0]];
+
+const OF_SLOTS: Due = Due {
+    kind: "slot",
+    numbers: &[0, 2, 3, 4, 6, 8, 9, 10],
+    dropped: DROPPED,
+    refills: &Refilled::ALL,
+    turns: &[],
+};
 
 /// A step does not judge 3 and 2. Steps seldom meet a full tail, since the slot before them has often written a block
 /// of it.
 const OF_STEPS: Due = Due {
     kind: "step",
-    numbers: &[0, 4, 5, 6, 7, 8, 9, 10],
+    numbers: &[0, 4, 6, 8, 9, 10],
+    dropped: DROPPED,
     refills: &[
         Refilled::Swaps,
         Refilled::Misses,
@@ -55,18 +69,18 @@ const OF_STEPS: Due = Due {
 /// the store and owed.
 const OF_LISTS: Due = Due {
     kind: "slot of a list",
-    numbers: &[0, 2, 4, 5, 6, 7],
+    numbers: &[0, 2, 4, 6],
+    dropped: DROPPED,
     refills: &[Refilled::Swaps, Refilled::WouldBeOwed],
     turns: &[],
 };
 
-/// The arbiter asks for no unknown queue, and for none without a byte.
-pub const NEVER_THE_ARBITERS: [u8; 2] = [6, 7];
-
-/// So a full queue without a tail byte is asked only where the request is Owed.
+/// The arbiter asks for no unknown queue, and for none without a byte. So a full queue without a tail byte is asked
+/// only where the request is Owed.
 const OF_ARBITER_SLOTS: Due = Due {
     kind: "slot of the arbiter's",
-    numbers: &[0, 2, 3, 4, 5, 8, 9, 10],
+    numbers: &[0, 2, 3, 4, 8, 9, 10],
+    dropped: DROPPED_BESIDE_THE_ARBITER,
     refills: &[
         Refilled::Swaps,
         Refilled::SwapsInFullTail,
@@ -79,14 +93,16 @@ const OF_ARBITER_SLOTS: Due = Due {
 
 const OF_ARBITER_STEPS: Due = Due {
     kind: "step of the arbiter's",
-    numbers: &[0, 4, 5, 8, 9, 10],
+    numbers: &[0, 4, 8, 9, 10],
+    dropped: DROPPED_BESIDE_THE_ARBITER,
     refills: &[Refilled::Swaps, Refilled::Misses, Refilled::CannotRead, Refilled::WouldBeOwed],
     turns: &Arbitrated::ALL,
 };
 
 const OF_ARBITER_LISTS: Due = Due {
     kind: "slot of the arbiter's in a list",
-    numbers: &[0, 2, 4, 5],
+    numbers: &[0, 2, 4],
+    dropped: DROPPED_BESIDE_THE_ARBITER,
     refills: OF_LISTS.refills,
     turns: &[
         Arbitrated::AsksNone,
@@ -126,7 +142,7 @@ const CALLS: [Call; 8] = [
 /// The answers of some slots: their numbers, and what those that were accepted did.
 #[derive(Default)]
 struct Answers {
-    numbers: BTreeMap<u8, usize>,
+    numbers: BTreeMap<Numbers, usize>,
     moves: BTreeMap<&'static str, usize>,
     refills: BTreeMap<Refilled, usize>,
     turns: BTreeMap<Arbitrated, usize>,
@@ -134,18 +150,18 @@ struct Answers {
 
 impl Answers {
     fn add(&mut self, answer: Answer, met: Met) {
-        *self.numbers.entry(answer.number).or_default() += 1;
+        *self.numbers.entry(words::numbers(answer)).or_default() += 1;
         for (name, happened) in MOVES.into_iter().zip([answer.delivers, answer.writes, answer.reads]) {
             *self.moves.entry(name).or_default() += usize::from(happened);
         }
-        if let Some(refilled) = met.comes_to(answer.number) {
+        if let Some(refilled) = met.comes_to(answer) {
             *self.refills.entry(refilled).or_default() += 1;
         }
     }
 
     fn add_turn(&mut self, answer: ArbiterAnswer, turn: Option<Turn>) {
         self.add(answer.slot, turn.map_or(Met::default(), |turn| turn.met));
-        for arbitrated in turn.map_or(Vec::new(), |turn| turn.comes_to(answer.slot.number)) {
+        for arbitrated in turn.map_or(Vec::new(), |turn| turn.comes_to(answer.slot)) {
             *self.turns.entry(arbitrated).or_default() += 1;
         }
     }
@@ -237,13 +253,12 @@ impl Seen {
             (OF_ARBITER_STEPS, &self.arbiter_steps),
             (OF_ARBITER_LISTS, &self.arbiter_lists),
         ];
-        for (Due { kind, numbers, refills, turns }, answers) in kinds {
-            for number in numbers {
-                ask(
-                    format!("a {kind} that answers {number}"),
-                    answers.numbers.get(number),
-                    LEAST_OF_A_NUMBER,
-                );
+        for (Due { kind, numbers, dropped, refills, turns }, answers) in kinds {
+            let stops = numbers.iter().map(|&number| [number, 0, 0]);
+            let drops = dropped.iter().map(|&[arrival, request]| [0, arrival, request]);
+            for numbers in stops.chain(drops) {
+                let what = format!("a {kind} that answers {}", spoken(numbers));
+                ask(what, answers.numbers.get(&numbers), LEAST_OF_A_NUMBER);
             }
             for name in MOVES {
                 ask(format!("a {kind} that {name}"), answers.moves.get(name), LEAST_OF_A_NUMBER);
@@ -297,7 +312,7 @@ impl fmt::Display for Seen {
 
 impl fmt::Display for Answers {
     fn fmt(&self, out: &mut fmt::Formatter) -> fmt::Result {
-        let numbers = listed(&self.numbers, |number| format!("number {number}"));
+        let numbers = listed(&self.numbers, |&numbers| format!("number {}", spoken(numbers)));
         let moves = listed(&self.moves, |name| name.to_string());
         write!(out, "{numbers}, {moves}, {}", listed(&self.refills, Refilled::to_string))?;
         if !self.turns.is_empty() {
@@ -314,6 +329,16 @@ impl fmt::Display for Waited {
         write!(out, "and of more than {MANY} queues: {asked_latest_of_many}, ")?;
         write!(out, "left: {left}, of these after exactly Q - 1 + L: {left_latest}, ")?;
         write!(out, "greatest wait to be asked: {greatest}")
+    }
+}
+
+/// The numbers of a slot, of its arrival and of its request: the last two only where a half is dropped.
+fn spoken([slot, arrival, request]: Numbers) -> String {
+    match [arrival, request] {
+        [0, 0] => slot.to_string(),
+        [_, 0] => format!("{slot} and {arrival}"),
+        [0, _] => format!("{slot} and {request}"),
+        [_, _] => format!("{slot}, {arrival} and {request}"),
     }
 }
 

@@ -1,5 +1,7 @@
 //! One handed-in state, and what each call makes of it.
 
+use gelwynnar::Judgement;
+use second::buffer::Refill;
 use second::random::Random;
 use second::sizes::Design;
 
@@ -12,6 +14,10 @@ use crate::memory::Memory;
 use crate::picks::{is_large, queue_inside, queue_outside, some_call};
 use crate::seen::{self, Seen};
 use crate::words::{arbiter_word, call_word, Call};
+
+/// What a step shall meet, and the last is anything. A full queue without a tail byte is the rarest.
+const SOUGHT: [Option<Refill>; 4] =
+    [Some(Refill::Swap), Some(Refill::NoTailByte), Some(Refill::NoTailByte), None];
 
 /// A state, the second program's side of it, and what its calls need.
 struct Trial<'a> {
@@ -34,17 +40,17 @@ pub fn check(
     let before = &handed.image;
     let expected = Expected::new(&before.places.state(), &before.store);
     let mut trial = Trial { before, call: handed.call, expected, edge, memory, random, seen };
-    let number = trial.slot().map_err(|what| format!("slot: {what}"))?;
+    let judgement = trial.slot().map_err(|what| format!("slot: {what}"))?;
     trial.arbiter().map_err(|what| format!("arbiter's slot: {what}"))?;
-    trial.judge(number).map_err(|what| format!("judge: {what}"))?;
+    trial.judge(judgement).map_err(|what| format!("judge: {what}"))?;
     trial.run().map_err(|what| format!("run: {what}"))?;
     trial.idle().map_err(|what| format!("idle: {what}"))?;
     trial.margin().map_err(|what| format!("margin: {what}"))
 }
 
 impl Trial<'_> {
-    /// The number that the slot answers.
-    fn slot(&mut self) -> Result<u8, String> {
+    /// What a judgement of the slot is to say.
+    fn slot(&mut self) -> Result<Judgement, String> {
         let mut expected = self.expected.clone();
         let met = expected.meets(self.call);
         let answer = expected.slot(self.call);
@@ -59,7 +65,7 @@ impl Trial<'_> {
         if answer.number != 3 && answer.number != 2 {
             self.steps(expected).map_err(|what| format!("and then step: {what}"))?;
         }
-        Ok(answer.number)
+        Ok(Judgement { number: answer.number, dropped: answer.dropped })
     }
 
     /// The same arrival, where the arbiter chooses.
@@ -86,8 +92,9 @@ impl Trial<'_> {
         let sizes = self.before.places.sizes();
         let mut before = self.memory.image()?;
         for _ in 0..if is_large(sizes) { 2 } else { 6 } {
-            let swap = if self.random.percent(20) { expected.some_swap(self.random) } else { None };
-            let call = swap.unwrap_or_else(|| some_call(self.random, sizes, 5));
+            let sought = self.random.pick(&SOUGHT);
+            let refill = sought.and_then(|refill| expected.some_refill(self.random, refill));
+            let call = refill.unwrap_or_else(|| some_call(self.random, sizes, 5));
             let number = if self.random.percent(50) {
                 self.step(&mut expected, call)?
             } else {
@@ -95,7 +102,7 @@ impl Trial<'_> {
             };
             let after = self.memory.image()?;
             if number != 0 {
-                same_image(&after, &before).map_err(|what| format!("{call:?} is refused, and {what}"))?;
+                same_image(&after, &before).map_err(|what| format!("{call:?} is stopped, and {what}"))?;
             }
             before = after;
         }
@@ -130,23 +137,24 @@ impl Trial<'_> {
         Ok(answer.slot.number)
     }
 
-    /// The slot's number, with as many bytes of store and with others, and nothing changed.
-    fn judge(&mut self, number: u8) -> Result<(), String> {
+    /// What the slot answers and drops, with as many bytes of store and with others, and nothing changed.
+    fn judge(&mut self, expected: Judgement) -> Result<(), String> {
         let given = self.before.store.len();
         let needed = self.before.places.sizes().store_size();
-        let mut lengths = vec![(given, number)];
+        let short = Judgement { number: 2, dropped: 0 };
+        let mut lengths = vec![(given, expected)];
         if self.expected.refuses_all(given) == 0 {
             // Long enough is long enough, and a byte too few is 2 whatever the call.
-            lengths.extend([needed, 1 << 32, usize::MAX].map(|length| (length, number)));
-            lengths.extend([(needed - 1, 2), (0, 2)]);
+            lengths.extend([needed, 1 << 32, usize::MAX].map(|length| (length, expected)));
+            lengths.extend([(needed - 1, short), (0, short)]);
         }
         let word = call_word(self.random, self.call);
         self.memory.put(self.before, self.edge);
-        for (length, number) in lengths {
+        for (length, expected) in lengths {
             let found = gelwynnar::judge(&self.memory.arrays.lent(), word, length);
             self.seen.call(seen::Call::Judge);
-            if found != number {
-                return Err(format!("{:?}, {length} bytes: {found}, expected {number}", self.call));
+            if found != expected {
+                return Err(format!("{:?}, {length} bytes: {found:?}, expected {expected:?}", self.call));
             }
         }
         self.unchanged()

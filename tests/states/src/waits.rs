@@ -5,7 +5,7 @@
 use gelwynnar::Answer;
 use second::sizes::{Design, Sizes};
 
-use crate::words::Arrival;
+use crate::words::{Arrival, ARRIVAL_DROPPED, REQUEST_DROPPED};
 
 /// Accepted slots are counted from 0. Idle slots by the count may be more than a machine word has numbers for.
 type Slot = u128;
@@ -69,16 +69,16 @@ impl Waits {
         if answer.number != 0 {
             return Ok(());
         }
-        self.arrives(arrival);
+        self.arrives(arrival, answer);
         self.rows.iter_mut().for_each(|row| row.front_since = None);
-        self.ends(request, answer)
+        self.ends(request.filter(|_| answer.dropped & REQUEST_DROPPED == 0), answer)
     }
 
     pub fn arbiters(&mut self, arrival: Arrival, found: gelwynnar::ArbiterAnswer) -> Result<(), String> {
         if found.slot.number != 0 {
             return Ok(());
         }
-        self.arrives(arrival);
+        self.arrives(arrival, found.slot);
         let asked = (found.asks == 1).then_some(usize::from(found.asked));
         for (queue, row) in self.rows.iter_mut().enumerate() {
             if row.asked.len() == row.arrived.len() {
@@ -102,13 +102,14 @@ impl Waits {
         self.callers(None, None, last)
     }
 
-    fn arrives(&mut self, arrival: Arrival) {
-        if let Some((queue, value)) = arrival {
+    /// A dropped arrival is none.
+    fn arrives(&mut self, arrival: Arrival, answer: Answer) {
+        if let Some((queue, value)) = arrival.filter(|_| answer.dropped & ARRIVAL_DROPPED == 0) {
             self.rows[queue].arrived.push(value);
         }
     }
 
-    /// An accepted slot with this request.
+    /// An accepted slot with this request, which it took.
     fn ends(&mut self, request: Option<usize>, answer: Answer) -> Result<(), String> {
         if let Some(queue) = request {
             let row = &mut self.rows[queue];

@@ -1,6 +1,7 @@
 //! Calls and answers as the header packs them.
 
 use gelwynnar::{Answer, ArbiterAnswer};
+use second::buffer::Numbers;
 use second::random::Random;
 use second::{arbiter, buffer};
 
@@ -49,12 +50,16 @@ fn wide(queue: usize) -> u64 {
     queue as u64
 }
 
+/// What was dropped, in the bits of `dropped`.
+pub const ARRIVAL_DROPPED: u8 = 1;
+pub const REQUEST_DROPPED: u8 = 2;
+
 /// What the library is to answer where the second program answers this: 0 in every field that has nothing to say.
 pub fn answer(found: buffer::Answer) -> Answer {
     let (queue, value) = found.delivered.unwrap_or((0, 0));
     Answer {
         number: found.number,
-        dropped: 0,
+        dropped: dropped(&found),
         delivers: found.delivered.is_some().into(),
         writes: found.written.is_some().into(),
         reads: found.read.is_some().into(),
@@ -73,4 +78,16 @@ pub fn arbiter_answer(found: arbiter::ArbiterAnswer) -> ArbiterAnswer {
         asks: found.asked.is_some().into(),
         asked: found.asked.unwrap_or(0) as u16,
     }
+}
+
+fn dropped(found: &buffer::Answer) -> u8 {
+    let arrival = if found.arrival_number == 5 { ARRIVAL_DROPPED } else { 0 };
+    let request = if found.request_number == 7 { REQUEST_DROPPED } else { 0 };
+    arrival | request
+}
+
+/// The number of the slot, of its arrival and of its request, as the second program has them.
+pub fn numbers(answer: Answer) -> Numbers {
+    let of_half = |bit: u8, number: u8| if answer.dropped & bit != 0 { number } else { 0 };
+    [answer.number, of_half(ARRIVAL_DROPPED, 5), of_half(REQUEST_DROPPED, 7)]
 }

@@ -1,6 +1,6 @@
 -- `in_turn` meets its contract: a judgement other than 0 is the slot's refusal; else each step finds what it asks in
 -- the state that the one before it left, and all of them are the slot.
-use mathlib.Core.Path.{_≡_, refl}
+use mathlib.Core.Path.{_≡_, refl, _∙_}
 use mathlib.Core.List.{List}
 use mathlib.Core.Option.{some}
 use Prim.Native.Nat.{ℕ}
@@ -8,14 +8,14 @@ use borrow.Author.Needs.{needs}
 use Rattle.model.specs.Sizes.{paper}
 use Rattle.model.specs.State.{State}
 use Rattle.model.specs.Slot.{Call, isOwed, earlyArrival, lateArrival, joined, asked, wrote, queueToWrite, queueToRead}
-use Rattle.model.specs.Slot.{refusal}
-use Rattle.model.proofs.one_slot.Accepted.{Accepted, accepted-facts}
+use Rattle.model.proofs.one_slot.Accepted.{Accepted}
 use Rattle.layout.specs.Calls.{chosenIn, arrivalIn, callIn}
 use Rattle.buffer.specs.Says.{stateOf}
 use Rattle.buffer.proofs.InTurn.{can-deliver, can-arrive, can-ask, can-arrive-late, can-write, can-read, can-turn}
 use Rattle.buffer.proofs.InTurn.{all-in-turn}
-use Rattle.buffer.proofs.Promises.{judged-clear, refused-says}
-use Rattle.buffer_choices.proofs.InTurn.{early-told, late-told, owing-told, write-told, read-told}
+use Rattle.buffer.proofs.Promises.{judged-carries, refused-says}
+use Rattle.buffer_choices.proofs.InTurn.{judged-accepted, early-told, late-told, owing-told, write-told}
+use Rattle.buffer_choices.proofs.InTurn.{read-told}
 use Rattle.buffer_choices.proofs.in_turn.Statement.{statement}
 use Rattle.buffer_choices.proofs.in_turn.Tie as tie
 
@@ -59,7 +59,7 @@ written c = c .before .before .before
 abbrev to-be-read : tie.After-read → tie.After-to-read
 to-be-read c = c .before .before
 
--- State, store and call as they were handed in, of a slot that goes on.
+-- State and store as they were handed in, and what is left of the call, of a slot that goes on.
 abbrev state : tie.After-swaps → State
 state c = stateOf (start (clear c) .args .state)
 
@@ -67,13 +67,13 @@ abbrev store : tie.After-swaps → List ℕ
 store c = start (clear c) .args .store .now
 
 abbrev call : tie.After-swaps → Call
-call c = callIn (start (clear c) .args .arrival) (start (clear c) .args .request)
-
-none-refused : (c : tie.After-swaps) → refusal paper (state c) (store c) (call c) ≡ 0
-none-refused c = judged-clear (store c) (clear c .before .judge .ensures) (clear c .if1 .left)
+call c = callIn (clear c .before .judge .result .arrival) (clear c .before .judge .result .request)
 
 accepted : (c : tie.After-swaps) → Accepted paper (state c) (store c) (call c)
-accepted c = accepted-facts paper (state c) (store c) (call c) (none-refused c)
+accepted c =
+    let s = start (clear c) in
+    judged-accepted (store c) (callIn (s .args .arrival) (s .args .request)) (clear c .before .judge .ensures)
+    (clear c .if1 .left)
 
 -- What the four choices tell is what the slot decides.
 early-is : (c : tie.After-early-arrival)
@@ -240,11 +240,15 @@ returns-2 c =
     let a = arrived (told k) in
     let e = early a in
     let d = delivered e in
+    let judged = clear (swapping d) .before .judge in
+    let s = start (clear (swapping d)) in
     record {
       promised = all-in-turn _ _ _ (accepted (swapping d)) (d .deliver .ensures .0) (early-is e) (a .arrive .ensures)
           (k .ask .ensures) (late-is l) (f .arrive2 .ensures) (written-is w) (v .write .ensures .0)
-          (v .write .ensures .1) (read-is r) (read .read .ensures) (c .turn .ensures) (d .deliver .ensures .1)
-          (none-refused (swapping d));
+          (v .write .ensures .1) (read-is r) (read .read .ensures) (judged .result .«arrival_number»)
+          (judged .result .«request_number») (c .turn .ensures) (d .deliver .ensures .1)
+          ∙ judged-carries (store (swapping d)) (callIn (s .args .arrival) (s .args .request)) (judged .ensures)
+          (clear (swapping d) .if1 .left);
       as-given = λ refused. absurd (refused refl);
     }
 

@@ -7,13 +7,11 @@ use borrow.Author.Needs.{needs}
 use Rattle.model.specs.Sizes.{paper}
 use Rattle.model.specs.State.{State}
 use Rattle.model.specs.Slot.{Call, isOwed, earlyArrival, lateArrival, joined, asked, wrote, queueToWrite, queueToRead}
-use Rattle.model.specs.Slot.{refusal}
-use Rattle.model.proofs.one_slot.Accepted.{Accepted, accepted-facts}
+use Rattle.model.proofs.one_slot.Accepted.{Accepted}
 use Rattle.layout.specs.Calls.{chosenIn, arrivalIn, callIn}
 use Rattle.buffer.specs.Says.{stateOf}
 use Rattle.buffer.proofs.InTurn.{can-deliver, can-arrive, can-ask, can-arrive-late, can-write, can-read, can-turn}
-use Rattle.buffer.proofs.Promises.{judged-clear}
-use Rattle.buffer_choices.proofs.InTurn.{early-told, late-told, owing-told, write-told, read-told}
+use Rattle.buffer_choices.proofs.InTurn.{judged-accepted, early-told, late-told, owing-told, write-told, read-told}
 use Rattle.example_steps.proofs.in_steps.Statement.{statement}
 use Rattle.example_steps.proofs.in_steps.Tie as tie
 
@@ -57,7 +55,7 @@ written c = c .before .before .before
 abbrev to-be-read : tie.After-read → tie.After-to-read
 to-be-read c = c .before .before
 
--- State, store and call as they were handed in, of a slot that goes on.
+-- State and store as they were handed in, and what is left of the call, of a slot that goes on.
 abbrev state : tie.After-swaps → State
 state c = stateOf (start (clear c) .args .state)
 
@@ -65,13 +63,13 @@ abbrev store : tie.After-swaps → List ℕ
 store c = start (clear c) .args .store .now
 
 abbrev call : tie.After-swaps → Call
-call c = callIn (start (clear c) .args .arrival) (start (clear c) .args .request)
-
-none-refused : (c : tie.After-swaps) → refusal paper (state c) (store c) (call c) ≡ 0
-none-refused c = judged-clear (store c) (clear c .before .judge .ensures) (clear c .if1 .left)
+call c = callIn (clear c .before .judge .result .arrival) (clear c .before .judge .result .request)
 
 accepted : (c : tie.After-swaps) → Accepted paper (state c) (store c) (call c)
-accepted c = accepted-facts paper (state c) (store c) (call c) (none-refused c)
+accepted c =
+    let s = start (clear c) in
+    judged-accepted (store c) (callIn (s .args .arrival) (s .args .request)) (clear c .before .judge .ensures)
+    (clear c .if1 .left)
 
 -- What the four choices tell is what the slot decides.
 early-is : (c : tie.After-early-arrival)

@@ -4,7 +4,7 @@ use mathlib.Core.Path.{_≡_, refl, ap, sym, _∙_}
 use mathlib.Core.Bool.{Bool, true, false, not}
 use mathlib.Core.List.{List}
 use mathlib.Core.Option.{Option, some, none}
-use Prim.Native.Nat.{ℕ, zero, suc, _+_, _-_, _*_, _%_, _<_, _≤_}
+use Prim.Native.Nat.{ℕ, zero, suc, _+_, _*_, _%_, _<_, _≤_}
 use native.Mathlib.Omega.{arith}
 use lib.Dec.{ltb}
 use lib.ListN.{length, drop, length-append, length-drop}
@@ -13,8 +13,8 @@ use Rattle.model.specs.Basics.{choose, when, All}
 use Rattle.model.specs.Sizes.{Design, storeBytes}
 use Rattle.model.specs.State.{Byte, State, valuesOf, countOf, headBytes, owedCells, blocks, keeps}
 use Rattle.model.specs.Slot.{Call, afterDelivery, arriving, isFull, oldestCell, wrote, queueToRead}
-use Rattle.model.specs.Slot.{arrivalUnknown, arrivalFull, requestUnknown, nothingToTake, leavesUncovered}
-use Rattle.model.specs.Slot.{tailFull, headFull, refusals, refusal, Answer, slot}
+use Rattle.model.specs.Slot.{arrivalUnknown, requestUnknown, nothingToTake, leavesUncovered, arrivalTaken}
+use Rattle.model.specs.Slot.{requestDrops, halvesTaken, tailFull, headFull, refusals, refusal, Answer, slot}
 use Rattle.model.specs.Arbiter.{unrequested, countedArrival, canBeAsked, queueAfter, firstFrom, choice}
 use Rattle.model.specs.Arbiter.{arbiterCall, lastAfter, noting, arbiterSlot}
 use Rattle.model.specs.Ideal.{stream, standsFor}
@@ -101,83 +101,87 @@ arrival-counted x y f =
       count-one-same y,
     ))
 
--- What counts is no more than what arrives.
-counted-few : (x : State) (arrival : Option Byte) (q : ℕ)
-    → countOf q (arriving (countedArrival x arrival)) ≤ countOf q (arriving arrival)
-counted-few x none q = omega arith
-counted-few x (some y) q =
+-- What counts is no more than what is taken of the arrival, whatever is asked: the arrival to a full queue may be taken
+-- where the slot swaps, and any other is not dropped.
+counted-few : (x : State) (arrival : Option Byte) (request : Option ℕ) (q : ℕ)
+    → countOf q (arriving (countedArrival x arrival))
+    ≤ countOf q (arriving (arrivalTaken x (record { arrival = arrival; request = request })))
+counted-few x none request q = omega arith
+counted-few x (some y) request q =
     by-test (isFull x (y .queue))
-    (λ t. rw t (omega arith))
+    (λ t. let none-counted = ap (λ (b : Bool). countOf q (arriving (choose b none (some y)))) t in
+    omega (arith, none-counted))
     (λ t. rw t (omega arith))
 
 -- So a queue that can be asked has a byte to take.
 can-be-taken : (x : State) (arrival : Option Byte) (q : ℕ) → canBeAsked x arrival q ≡ true
-    → nothingToTake x arrival (some q) ≡ false
+    → nothingToTake x (arrivalTaken x (arbiterCall x arrival)) (some q) ≡ false
 can-be-taken x arrival q t =
-    by-test (nothingToTake x arrival (some q))
-    (λ u. let s = seven-only x arrival q u in
+    by-test (nothingToTake x comes (some q))
+    (λ u. let s = seven-only x comes q u in
     absurd (omega (
       arith,
       ltb-true 0 (unrequested x q + countOf q (arriving (countedArrival x arrival))) t,
       ltb-false (owedCells x q) (headBytes x q + x .sizes .b * blocks x q) (s .0),
       s .1,
-      counted-few x arrival q,
-      count-append q (x .tail) (arriving arrival),
+      counted-few x arrival (choice x arrival) q,
+      count-append q (x .tail) (arriving comes),
     )))
     (λ u. u)
-
--- A number that no refusal has is never answered.
-never : (design : Design) (x : State) (store : List ℕ) (call : Call) (bad : ℕ) → 1 ≤ bad
-    → All (λ (n : ℕ). n ≡ bad → ⊥) (refusals design x store call) → slot design x store call .reply .number ≡ bad → ⊥
-never design x store call bad pos f = go (slot design x store call) (outcome design x store call)
   where
-    go : (a : Answer) → RefusedOrAccepted design x store call a → a .reply .number ≡ bad → ⊥
-    go a (was-refused n r) e = not-first bad (refusals design x store call) pos f (r ∙ e)
-    go a (was-accepted g) e = omega (arith, e)
+    comes : Option Byte
+    comes = arrivalTaken x (arbiterCall x arrival)
+
+-- What the arbiter asks is never dropped.
+pub choice-stays : (x : State) (arrival : Option Byte) → requestDrops x (arbiterCall x arrival) ≡ false
+choice-stays x arrival =
+    by-option (choice x arrival)
+    (λ e. ap (nothingToTake x comes) e)
+    (λ q e. ap (nothingToTake x comes) e
+    ∙ can-be-taken x arrival q (first-at (x .sizes .Q) (canBeAsked x arrival) (x .sizes .Q) _ q e .holds))
+  where
+    comes : Option Byte
+    comes = arrivalTaken x (arbiterCall x arrival)
 
 module _ (design : Design) (x : State) (store : List ℕ) (arrival : Option Byte) where
   abbrev call : Call
   call = arbiterCall x arrival
 
-  -- 6 and 7 are refusals of the request; no other test has their numbers.
-  but : (bad : ℕ) → 6 ≤ bad → bad ≤ 7 → (6 ≡ bad → requestUnknown x (choice x arrival) ≡ false)
-      → (7 ≡ bad → nothingToTake x arrival (choice x arrival) ≡ false)
-      → All (λ (n : ℕ). n ≡ bad → ⊥) (refusals design x store call)
-  but bad low high six seven =
+  -- 7 is the request's own number.
+  never-7 : arbiterSlot design x store arrival .reply .requestNumber ≡ 0
+  never-7 = go (slot design x store call) (outcome design x store call)
+    where
+      go : (a : Answer) → RefusedOrAccepted design x store call a → a .reply .requestNumber ≡ 0
+      go a (was-refused n r) = refl
+      go a (was-accepted g) = ap (λ (t : Bool). when t 7) (choice-stays x arrival)
+
+  -- 6 is a refusal of the request; no other test has its number.
+  none-is-6 : requestUnknown x (choice x arrival) ≡ false
+      → All (λ (n : ℕ). n ≡ 6 → ⊥) (refusals design x store call)
+  none-is-6 known =
       other (not (keeps design x)) 3 (λ h. omega (arith, h))
       also other (ltb (length store) (storeBytes (x .sizes))) 2 (λ h. omega (arith, h))
       also other (arrivalUnknown x arrival) 4 (λ h. omega (arith, h))
-      also other (arrivalFull x arrival (choice x arrival)) 5 (λ h. omega (arith, h))
-      also when-excluded bad (requestUnknown x (choice x arrival)) 6 (omega arith) six
-      also when-excluded bad (nothingToTake x arrival (choice x arrival)) 7 (omega arith) seven
+      also when-excluded 6 (requestUnknown x (choice x arrival)) 6 (omega arith) (λ h. known)
       also other (leavesUncovered (oldestCell (x .cells)) x) 8 (λ h. omega (arith, h))
-      also other (tailFull x arrival (choice x arrival)) 9 (λ h. omega (arith, h))
-      also other (headFull (wrote x call) (queueToRead (wrote x call))) 10 (λ h. omega (arith, h))
+      also other (tailFull x (left .arrival) (left .request)) 9 (λ h. omega (arith, h))
+      also other (headFull (wrote x left) (queueToRead (wrote x left))) 10 (λ h. omega (arith, h))
       also tt
     where
-      other : (t : Bool) (k : ℕ) → (k ≡ bad → ⊥) → when t k ≡ bad → ⊥
-      other t k f = when-excluded bad t k (omega arith) (λ h. absurd (f h))
+      left : Call
+      left = halvesTaken x call
 
-  never-7 : arbiterSlot design x store arrival .reply .number ≡ 7 → ⊥
-  never-7 =
-      never design x store call 7 (omega arith)
-      (but 7 (omega arith) (omega arith) (λ h. absurd (omega (arith, h))) (λ h. taken))
-    where
-      taken : nothingToTake x arrival (choice x arrival) ≡ false
-      taken =
-          by-option (choice x arrival)
-          (λ e. ap (nothingToTake x arrival) e)
-          (λ q e. ap (nothingToTake x arrival) e
-          ∙ can-be-taken x arrival q (first-at (x .sizes .Q) (canBeAsked x arrival) (x .sizes .Q) _ q e .holds))
+      other : (t : Bool) (k : ℕ) → (k ≡ 6 → ⊥) → when t k ≡ 6 → ⊥
+      other t k f = when-excluded 6 t k (omega arith) (λ h. absurd (f h))
 
   never-6 : arbiterSlot design x store arrival .reply .number ≡ 6 → ⊥
   never-6 e =
       by-test (keeps design x)
-      (λ k. never design x store call 6 (omega arith)
-      (but 6 (omega arith) (omega arith) (λ h. known (keeps-facts design x k .last-below))
-      (λ h. absurd (omega (arith, h)))) e)
+      (λ k. go 6 (not-first 6 (refusals design x store call) (omega arith)
+      (none-is-6 (known (keeps-facts design x k .last-below))))
+      (slot design x store call) (outcome design x store call) e refl)
       (λ k. let three : refusal design x store call ≡ 3 = rw k in
-      go three (slot design x store call) (outcome design x store call) e)
+      go 6 (λ h. omega (arith, three, h)) (slot design x store call) (outcome design x store call) e refl)
     where
       known : x .lastAsked < x .sizes .Q → requestUnknown x (choice x arrival) ≡ false
       known l =
@@ -185,10 +189,10 @@ module _ (design : Design) (x : State) (store : List ℕ) (arrival : Option Byte
           (λ h. ap (requestUnknown x) h)
           (λ q h. ap (requestUnknown x) h ∙ lt-leb (x .sizes .Q) q (choice-below x arrival q l h))
 
-      go : refusal design x store call ≡ 3 → (a : Answer) → RefusedOrAccepted design x store call a
-          → a .reply .number ≡ 6 → ⊥
-      go three a (was-refused n r) h = omega (arith, r, three, h)
-      go three a (was-accepted f) h = omega (arith, h)
+      go : (bad : ℕ) → (refusal design x store call ≡ bad → ⊥) → (a : Answer)
+          → RefusedOrAccepted design x store call a → a .reply .number ≡ bad → bad ≡ 6 → ⊥
+      go bad not-bad a (was-refused n r) h six = not-bad (r ∙ h)
+      go bad not-bad a (was-accepted f) h six = omega (arith, h, six)
 
   -- What is noted.
   asked-is-noted : (q : ℕ) → arbiterSlot design x store arrival .reply .number ≡ 0 → choice x arrival ≡ some q

@@ -3,30 +3,31 @@
 -- choice is one of the ideal buffer's (`chosen-so`), and place t of what that gives is place t + L of the deliveries.
 -- `fair` says it.
 use mathlib.Core.Path.{_≡_, refl, ap, sym, _∙_, subst}
-use mathlib.Core.Bool.{true, false}
+use mathlib.Core.Bool.{Bool, true}
 use mathlib.Core.List.{List, [], _∷_, _++_}
 use mathlib.Core.Option.{Option, some, none}
-use Prim.Native.Nat.{ℕ, suc, _+_, _-_, _*_, _<_, _≤_}
+use Prim.Native.Nat.{ℕ, suc, _+_, _-_, _<_, _≤_}
 use native.Mathlib.Omega.{arith}
 use lib.Dec.{eqb, ltb, leb}
 use lib.ListN.{length, drop, getD, getElem?, length-append, length-drop, List·getD-eq-default}
 use lib.Seq.{getD-take, getD-append-add}
 use borrow.Author.Tests.{eqb-true, ltb-true, lt-ltb, ne-eqb, leb-true, leb-false}
+use Rattle.model.specs.Basics.{choose}
 use Rattle.model.specs.Sizes.{Sizes, Limits, Design, full}
 use Rattle.model.specs.State.{Byte, byte, Ring, ring, State, fresh, valuesOf, countOf, tailBytes, owedCells}
 use Rattle.model.specs.State.{ringOf, blocks, keeps}
-use Rattle.model.specs.Slot.{Call, arriving, isFull, swaps, Answer, accept, slot}
+use Rattle.model.specs.Slot.{Call, arriving, isFull, swaps, arrivalTaken, halvesTaken, Answer, accept, slot}
 use Rattle.model.specs.Lists.{Step, stepOf, accepted, deliveries}
 use Rattle.model.specs.Arbiter.{unrequested, countedArrival, canBeAsked, queueAfter, choice}
 use Rattle.model.specs.Arbiter.{arbiterCall, lastAfter, noting, arbiterSlot}
 use Rattle.model.specs.Chains.{Chain, no-slot, arbiter-slot}
-use Rattle.model.specs.Ideal.{Ideal, waitingWith, ringBytes, standsFor, stream, IsIdealSlot}
+use Rattle.model.specs.Ideal.{Ideal, waitingWith, ringBytes, standsFor, stream, idealSlot, IsIdealSlot}
 use Rattle.model.specs.Fairness.{arbiterRun, arbiterState, arbiterStore, Front, ServedSoon, Fair}
 use Rattle.model.proofs.basics.Tests.{by-test, some-inj}
 use Rattle.model.proofs.basics.Bytes.{count-one-other, count-past}
 use Rattle.model.proofs.basics.Rounds.{next-below, first-alike}
 use Rattle.model.proofs.one_slot.Rules.{Keeps, keeps-facts, keeps-holds, keeps-noted}
-use Rattle.model.proofs.one_slot.Swap.{swap-facts, early-is}
+use Rattle.model.proofs.one_slot.Swap.{swap-facts}
 use Rattle.model.proofs.one_slot.Accepted.{Judged, RefusedOrAccepted, was-refused, was-accepted, outcome}
 use Rattle.model.proofs.one_slot.Kept.{slot-kept}
 use Rattle.model.proofs.one_slot.Chains.{links, chain-keeps, noted-below}
@@ -35,61 +36,56 @@ use Rattle.model.proofs.delay.IdealSlot.{accepted-is-ideal}
 use Rattle.model.proofs.delay.Delay.{Delays, gives, chain-delays}
 use Rattle.model.proofs.delay.Sentences.{element-at}
 use Rattle.model.proofs.Demand.{every-chain}
-use Rattle.model.proofs.arbiter.Choice.{unrequested-is-waiting}
+use Rattle.model.proofs.arbiter.Choice.{unrequested-is-waiting, choice-stays}
 use Rattle.model.proofs.arbiter.Waiting.{ChosenSlots, none-chosen, one-chosen, FrontNow, Served, front-there}
 use Rattle.model.proofs.arbiter.Waiting.{served-soon}
 
--- In an accepted slot a queue can be asked exactly where a byte of it waits, the arrival counted. For the arrival of a
--- full queue is taken only where the slot swaps, and then the queue has a byte in the tail.
+-- In an accepted slot a queue can be asked exactly where a byte of it waits, what is taken of the arrival counted. For
+-- the arrival to a full queue is taken only where the slot swaps, and then the queue has a byte in the tail.
 module _ (design : Design) (x : State) (store : List ℕ) (arrival : Option Byte)
-    (j : Judged design x store (arbiterCall x arrival)) (q : ℕ) (l : q < x .sizes .Q) where
-  abbrev call : Call
-  call = arbiterCall x arrival
+    (j : Judged design x store (halvesTaken x (arbiterCall x arrival))) (q : ℕ) (l : q < x .sizes .Q) where
+  abbrev withChoice : Option Byte → Call
+  withChoice a = record { arrival = a; request = choice x arrival }
 
-  counts-alike : (a : Option Byte) → arrival ≡ a
+  counts-alike : (a : Option Byte)
       → ltb 0 (unrequested x q + countOf q (arriving (countedArrival x a)))
-      ≡ ltb 0 (unrequested x q + countOf q (arriving a))
-  counts-alike none e = refl
-  counts-alike (some y) e =
+      ≡ ltb 0 (unrequested x q + countOf q (arriving (arrivalTaken x (withChoice a))))
+  counts-alike none = refl
+  counts-alike (some y) =
       by-test (isFull x (y .queue))
-      (λ t. by-test (swaps x arrival (choice x arrival))
+      (λ t. by-test (swaps x (some y) (choice x arrival))
       (λ s. by-test (eqb (y .queue) q)
-      (λ same. let w = swap-facts x call s in
-      both-there (w .byte-there) (some-inj _ y (sym (w .arrival-is) ∙ e)) same)
-      (λ other. rw t (ap (λ (n : ℕ). ltb 0 (unrequested x q + n)) (sym (count-one-other y q other)))))
-      (λ s. absurd (no-room t s)))
+      (λ same. let w = swap-facts x (withChoice (some y)) s in
+      both-there (w .byte-there) (some-inj _ y (sym (w .arrival-is))) same)
+      (λ other. rw (t, s) (ap (λ (n : ℕ). ltb 0 (unrequested x q + n)) (sym (count-one-other y q other)))))
+      (λ s. rw (t, s)))
       (λ t. rw t)
     where
       both-there : {z : Byte} → 1 ≤ tailBytes x (z .queue) → z ≡ y → eqb (y .queue) q ≡ true
           → ltb 0 (unrequested x q + countOf q (arriving (countedArrival x (some y))))
-          ≡ ltb 0 (unrequested x q + countOf q (arriving (some y)))
+          ≡ ltb 0 (unrequested x q + countOf q (arriving (arrivalTaken x (withChoice (some y)))))
       both-there {z} there is same =
           lt-ltb 0 (unrequested x q + countOf q (arriving (countedArrival x (some y)))) (omega (arith, byte-of-q))
-          ∙ sym (lt-ltb 0 (unrequested x q + countOf q (arriving (some y))) (omega (arith, byte-of-q)))
+          ∙ sym (lt-ltb 0 (unrequested x q + countOf q (arriving (arrivalTaken x (withChoice (some y)))))
+          (omega (arith, byte-of-q)))
         where
           byte-of-q : 1 ≤ tailBytes x q
           byte-of-q =
               subst (λ (p : ℕ). 1 ≤ tailBytes x p) (ap (λ (b : Byte). b .queue) is ∙ eqb-true (y .queue) q same) there
 
-      no-room : isFull x (y .queue) ≡ true → swaps x arrival (choice x arrival) ≡ false → ⊥
-      no-room t s =
-          omega (
-            arith,
-            eqb-true (tailBytes x (y .queue) + x .sizes .b * blocks x (y .queue)) (x .sizes .K * x .sizes .b) t,
-            j .arrival-ok y (early-is x call s ∙ e) .1,
-          )
+  abbrev comes : Option Byte
+  comes = arrivalTaken x (arbiterCall x arrival)
 
-  pub can-be-asked-waits : canBeAsked x arrival q
-      ≡ ltb 0 (length (waitingWith (standsFor x store .waiting) arrival q))
+  pub can-be-asked-waits : canBeAsked x arrival q ≡ ltb 0 (length (waitingWith (standsFor x store .waiting) comes q))
   can-be-asked-waits =
-      counts-alike arrival refl
+      counts-alike arrival
       ∙ ap (ltb 0)
-      (let e : unrequested x q + countOf q (arriving arrival)
-      ≡ length (waitingWith (standsFor x store .waiting) arrival q) =
+      (let e : unrequested x q + countOf q (arriving comes)
+      ≡ length (waitingWith (standsFor x store .waiting) comes q) =
       omega (
         arith,
         unrequested-is-waiting _ x store q l (j .store-long) (j .kept .within),
-        length-append (standsFor x store .waiting q) (valuesOf q (arriving arrival)),
+        length-append (standsFor x store .waiting q) (valuesOf q (arriving comes)),
       ) in e)
 
 -- A list of the arbiter's slots: a chain, and its accepted slots are such as the ideal buffer has.
@@ -120,21 +116,33 @@ module _ (design : Design) where
       → ChosenFrom (x .sizes .Q)
       (noting (lastAfter (a .reply .number) (choice x arrival) (x .lastAsked)) a .state) (a .store) rest
       → ChosenFrom (x .sizes .Q) x store
-      (stepOf x store (arbiterCall x arrival) (noting (lastAfter (a .reply .number) (choice x arrival) (x .lastAsked)) a)
+      (stepOf x store (arbiterCall x arrival)
+      (noting (lastAfter (a .reply .number) (choice x arrival) (x .lastAsked)) a)
       ∷ rest)
   chosen-more x store arrival a rest h v (was-refused n e) c = rw (ne-eqb (suc n) 0 (λ z. omega arith)) c
   chosen-more x store arrival a rest h v (was-accepted f) c =
       one-chosen
-      (first-alike (x .sizes .Q) (canBeAsked x arrival)
-      (λ q. ltb 0 (length (waitingWith (standsFor x store .waiting) arrival q))) (x .sizes .Q)
+      (stays
+      ∙ first-alike (x .sizes .Q) (canBeAsked x arrival)
+      (λ q. ltb 0 (length (waitingWith (standsFor x store .waiting) (left .arrival) q))) (x .sizes .Q)
       (queueAfter (x .sizes .Q) (x .lastAsked)) (next-below (x .sizes .Q) (x .lastAsked) (omega (arith, v .last-below)))
       (λ q l. can-be-asked-waits design x store arrival (f .judged) q l))
+      (subst (λ (o : Option ℕ).
+      ChosenSlots (x .sizes .Q) (idealSlot left (standsFor x store) .waiting) (lastAfter 0 o (x .lastAsked))
+      (accepted rest))
+      (sym stays)
       (subst (λ (i : Ideal).
       ChosenSlots (x .sizes .Q) (i .waiting) (lastAfter 0 (choice x arrival) (x .lastAsked)) (accepted rest))
-      (ideal .leaves) c)
+      (ideal .leaves) c))
     where
-      ideal : IsIdealSlot x store (arbiterCall x arrival) (accept x store (arbiterCall x arrival))
-      ideal = accepted-is-ideal design x store (arbiterCall x arrival) h (f .judged)
+      left : Call
+      left = halvesTaken x (arbiterCall x arrival)
+
+      stays : left .request ≡ choice x arrival
+      stays = ap (λ (t : Bool). choose t none (choice x arrival)) (choice-stays x arrival)
+
+      ideal : IsIdealSlot x store (halvesTaken x (arbiterCall x arrival)) (accept x store (arbiterCall x arrival))
+      ideal = accepted-is-ideal design x store (halvesTaken x (arbiterCall x arrival)) h (f .judged)
 
   chosen-so : (x : State) (store : List ℕ) (arrivals : List (Option Byte)) → 1 ≤ design .cellCount (x .sizes)
       → Keeps design x → ChosenFrom (x .sizes .Q) x store (arbiterRun design x store arrivals)
@@ -242,7 +250,7 @@ front-below design x store (arrival ∷ arrivals) q v f =
         (accepted (stepOf x store (arbiterCall x arrival) b ∷ arbiterRun design (b .state) (b .store) arrivals)) q v)
         → q < x .sizes .Q
     go a (was-refused n e) rest f = rest (rw (ne-eqb (suc n) 0 (λ z. omega arith)) at f)
-    go a (was-accepted g) rest f = waits-below design x store (arbiterCall x arrival) q v (g .judged) f
+    go a (was-accepted g) rest f = waits-below design x store (halvesTaken x (arbiterCall x arrival)) q v (g .judged) f
 
 front-now : (x : State) (store : List ℕ) (slots : List Step) (q v : ℕ) → Front x store slots q v
     → FrontNow (standsFor x store .waiting) slots q v
@@ -305,7 +313,7 @@ has-a-front design x store arrival arrivals q zero l t =
         (ltb-true 0 (length front) (sym (can-be-asked-waits design x store arrival (g .judged) q l) ∙ t))
       where
         front : List ℕ
-        front = waitingWith (standsFor x store .waiting) arrival q
+        front = waitingWith (standsFor x store .waiting) (arrivalTaken x (arbiterCall x arrival)) q
 
 pub fair : (limits : Limits) → Fair limits
 fair limits = record {

@@ -13,7 +13,7 @@ use borrow.Author.Tests.{ne-eqb}
 use Rattle.model.specs.Basics.{tabulate}
 use Rattle.model.specs.Sizes.{Design}
 use Rattle.model.specs.State.{Byte, State, valuesOf}
-use Rattle.model.specs.Slot.{Call, asByte, arriving, Answer, accept, slot}
+use Rattle.model.specs.Slot.{Call, asByte, arriving, halvesTaken, Answer, accept, slot}
 use Rattle.model.specs.Lists.{Step, stepOf, accepted, deliveries, arrivalsOf, asks, requestsOf, requestAt, dueTo}
 use Rattle.model.specs.Arbiter.{noting}
 use Rattle.model.specs.Ideal.{Ideal, soonest, waitingWith, nextByteOf, idealSlot, standsFor, stream, IsIdealSlot}
@@ -79,8 +79,8 @@ module _ (design : Design) where
       (ideal .delivers) (ideal .byte-waits)
       (subst (λ (i : Ideal). Delays i (accepted rest)) (ideal .leaves) d)
     where
-      ideal : IsIdealSlot x store call (accept x store call)
-      ideal = accepted-is-ideal design x store call h (f .judged)
+      ideal : IsIdealSlot x store (halvesTaken x call) (accept x store call)
+      ideal = accepted-is-ideal design x store (halvesTaken x call) h (f .judged)
 
   pub chain-delays : {x : State} {store : List ℕ} {steps : List Step} {last : State}
       → 1 ≤ design .cellCount (x .sizes) → Keeps design x → Links design x store steps last

@@ -14,7 +14,7 @@ use borrow.Author.Tests.{ltb-true, ltb-false, le-ltb, ne-eqb}
 use Rattle.model.specs.Sizes.{Design, storeBytes}
 use Rattle.model.specs.State.{Byte, State, valuesOf, countOf, headBytes, owedCells, blocks}
 use Rattle.model.specs.Slot.{Call, asByte, arriving, isOwed, afterDelivery, afterRequest, afterWrite}
-use Rattle.model.specs.Slot.{storeWritten, afterRead, swaps, earlyArrival, lateArrival, accept}
+use Rattle.model.specs.Slot.{storeWritten, afterRead, swaps, earlyArrival, lateArrival, carriedOut}
 use Rattle.model.specs.Slot.{queueToWrite, queueToRead, joined, asked, wrote, wroteStore, refilled, nothingToTake}
 use Rattle.model.specs.Lists.{asks}
 use Rattle.model.specs.Ideal.{Ideal, waitingWith, nextByteOf, stream, lineOf, standsFor, idealSlot, IsIdealSlot}
@@ -183,7 +183,7 @@ module _ (design : Design) (x : State) (store : List ℕ) (call : Call)
       (asked-so .waiting-is q ∙ ap (drop (asks q (call .request))) (joined-waiting q))
       ∙ same-waits q
 
-  pub accepted-is-ideal : IsIdealSlot x store call (accept x store call)
+  pub accepted-is-ideal : {i j : ℕ} → IsIdealSlot x store call (carriedOut i j x store call)
   accepted-is-ideal = record {
     delivers = delivered-soonest x (ringValues x store) (x .cells) (j .covered);
     leaves = same-ideal (standsFor (refilled x store call) store′)

@@ -10,23 +10,16 @@ use borrow.Author.Tests.{ne-eqb, eqb-false}
 use Rattle.model.specs.Basics.{All}
 use Rattle.model.specs.Sizes.{Design}
 use Rattle.model.specs.State.{State, tailBytes, headBytes}
-use Rattle.model.specs.Slot.{Call, Reply, Answer, answer, refuse, refusal, slot}
+use Rattle.model.specs.Slot.{Reply, Answer, refuse, refusal, slot}
 use Rattle.model.specs.Calls.{idle, idles}
 use Rattle.model.specs.Lists.{run, lastState, lastStore}
 use Rattle.model.specs.Idle.{QuietStep, leadingEmpties, moveDue, quietOf, quietFirst, stretchLength, lastAnswer}
 use Rattle.model.proofs.basics.Tests.{by-test}
+use Rattle.model.proofs.one_slot.Accepted.{refusal-told}
 use Rattle.model.proofs.one_slot.Lists.{last-append, last-store-append}
 use Rattle.model.proofs.idle.QuietSlots.{idles-parts}
 
 module _ (design : Design) (x : State) (store : List ℕ) where
-  -- A slot answers with the number of its refusal.
-  refusal-told : (call : Call) → slot design x store call .reply .number ≡ refusal design x store call
-  refusal-told call = go (refusal design x store call)
-    where
-      go : (n : ℕ) → answer n x store call .reply .number ≡ n
-      go zero = refl
-      go (suc n) = refl
-
   pub quiet-first-is : (n m : ℕ)
       → m ≡ quietOf (x .sizes) (x .phase) (leadingEmpties (x .cells))
       (moveDue (x .sizes) (tailBytes x) (headBytes x) (x .cells)) n
@@ -40,14 +33,15 @@ module _ (design : Design) (x : State) (store : List ℕ) where
       none-quiet : (k : ℕ) → (refusal design x store idle ≡ 0 → ⊥) → All QuietStep (run design x store (idles k))
           → k ≡ 0
       none-quiet zero refused all = refl
-      none-quiet (suc k) refused all = absurd (refused (sym (refusal-told idle) ∙ ap (λ (r : Reply). r .number) (all .0)))
+      none-quiet (suc k) refused all =
+          absurd (refused (sym (refusal-told design x store idle) ∙ ap (λ (r : Reply). r .number) (all .0)))
 
   -- Where the first is refused, a stretch is one slot.
   pub stretch-refused : (k n : ℕ) → slot design x store idle ≡ refuse k x store → (k ≡ 0 → ⊥)
       → stretchLength design x store n ≡ min n 1
   stretch-refused k n refused other =
       rw (ne-eqb (refusal design x store idle) 0
-      (λ e. other (sym (ap (λ (a : Answer). a .reply .number) refused) ∙ refusal-told idle ∙ e)))
+      (λ e. other (sym (ap (λ (a : Answer). a .reply .number) refused) ∙ refusal-told design x store idle ∙ e)))
 
   pub last-is-slot : (n : ℕ) → 1 ≤ n
       → lastAnswer design x store n

@@ -8,16 +8,17 @@ use mathlib.Core.Option.{Option, some, none}
 use Prim.Native.Nat.{ℕ, suc, _+_, _-_, _*_, _≤_, max}
 use native.Mathlib.Omega.{arith}
 use lib.Dec.{ltb}
-use lib.ListN.{length, drop, length-replicate, length-append}
+use lib.ListN.{length, drop, getD, length-replicate, length-append}
 use borrow.Author.Tests.{ltb-true, ltb-false, ne-eqb, eqb-true, eq-eqb, le-leb, le-ltb, not-true}
-use Rattle.model.specs.Basics.{choose}
+use Rattle.model.specs.Basics.{choose, when}
 use Rattle.model.specs.Sizes.{Sizes, Limits, Design, tailSize, full, oneFewer}
 use Rattle.model.specs.State.{Byte, empty, held, owed, State, fresh, valuesOf, countOf, tailBytes, headBytes}
 use Rattle.model.specs.State.{blocks}
 use Rattle.model.specs.Slot.{Call, oldestOf, heldCell, youngestCell, arrivalFull, isFull, swaps, without}
 use Rattle.model.specs.Slot.{oldestCell, deliveryOf, arriving, isOwed, tailLeft, moves, fullest, queueToWrite}
 use Rattle.model.specs.Slot.{afterArrival, refillQueue, queueToRead, joined, nothingToTake, tailFound, tailFull}
-use Rattle.model.specs.Slot.{accept, Answer}
+use Rattle.model.specs.Slot.{arrivalUnknown, requestUnknown, requestDrops, halvesTaken, refusals, carriedOut}
+use Rattle.model.specs.Slot.{Answer}
 use Rattle.model.specs.Lists.{joinedFillOf, readFillOf}
 use Rattle.model.specs.Arbiter.{canBeAsked, queueAfter, firstFrom, choice, lastAfter, noting}
 use Rattle.model.proofs.basics.Tests.{by-test, and-left, and-right}
@@ -39,7 +40,7 @@ pub leaves-first : (x : State) (call : Call) → joined x call .cells ≡ drop 1
 leaves-first x call = refl
 
 pub delivers-as-handed-in : (x : State) (store : List ℕ) (call : Call)
-    → accept x store call .reply .delivered ≡ deliveryOf (oldestCell (x .cells)) (x .head)
+    → carriedOut 0 0 x store call .reply .delivered ≡ deliveryOf (oldestCell (x .cells)) (x .head)
 delivers-as-handed-in x store call = refl
 
 -- 3. "A byte asked for while in the tail travels in its cell and never goes to slow store": it leaves the tail.
@@ -91,13 +92,13 @@ arrival-raises-mark arrival x = refl
 
 -- "The head also just after the read": nothing leaves it after that, so that it is the head as the slot ends.
 pub head-looked-at : (x : State) (store : List ℕ) (call : Call)
-    → readFillOf 0 x store call ≡ length (accept x store call .state .head)
+    → readFillOf 0 x store call ≡ length (carriedOut 0 0 x store call .state .head)
 head-looked-at x store call = refl
 
 -- Request 2.8: "On a handed-in state the mark is the greater of the old one and the new fill." (Of the tail it is
 -- `tail-mark-rises`, in proofs/HighMarks.)
 pub head-mark-rises : (x : State) (store : List ℕ) (call : Call)
-    → accept x store call .state .headMark ≡ max (x .headMark) (readFillOf 0 x store call)
+    → carriedOut 0 0 x store call .state .headMark ≡ max (x .headMark) (readFillOf 0 x store call)
 head-mark-rises x store call = refl
 
 -- 7 comes only where the request would be Held and its queue has no byte in the tail, this slot's arrival counted;
@@ -112,6 +113,32 @@ seven-only x arrival q e = (
 pub seven-there : (x : State) (arrival : Option Byte) (q : ℕ) → isOwed x q ≡ false
     → countOf q (x .tail ++ arriving arrival) ≡ 0 → nothingToTake x arrival (some q) ≡ true
 seven-there x arrival q t e = rw t (eq-eqb (countOf q (x .tail ++ arriving arrival)) 0 e)
+
+-- Request 2.5. A dropped arrival never came, and "7 is judged without a dropped arrival"; a dropped request never came.
+pub dropped-arrival-gone : (x : State) (call : Call) → arrivalFull x (call .arrival) (call .request) ≡ true
+    → halvesTaken x call .arrival ≡ none
+dropped-arrival-gone x call e = ap (λ (t : Bool). choose t none (call .arrival)) e
+
+pub seven-without-it : (x : State) (call : Call) → arrivalFull x (call .arrival) (call .request) ≡ true
+    → requestDrops x call ≡ nothingToTake x none (call .request)
+seven-without-it x call e = ap (λ (t : Bool). nothingToTake x (choose t none (call .arrival)) (call .request)) e
+
+pub dropped-request-gone : (x : State) (call : Call) → requestDrops x call ≡ true → halvesTaken x call .request ≡ none
+dropped-request-gone x call e = ap (λ (t : Bool). choose t none (call .request)) e
+
+-- 4 and 6 look at the call as it came, 9 at what is left of it.
+pub four-of-the-call : (design : Design) (x : State) (store : List ℕ) (call : Call)
+    → getD (refusals design x store call) 2 0 ≡ when (arrivalUnknown x (call .arrival)) 4
+four-of-the-call design x store call = refl
+
+pub six-of-the-call : (design : Design) (x : State) (store : List ℕ) (call : Call)
+    → getD (refusals design x store call) 3 0 ≡ when (requestUnknown x (call .request)) 6
+six-of-the-call design x store call = refl
+
+pub nine-of-what-is-left : (design : Design) (x : State) (store : List ℕ) (call : Call)
+    → getD (refusals design x store call) 5 0
+    ≡ when (tailFull x (halvesTaken x call .arrival) (halvesTaken x call .request)) 9
+nine-of-what-is-left design x store call = refl
 
 -- 5 comes exactly where the queue has no space left for the byte, its tail bytes and its blocks filling its K blocks,
 -- and the slot does not swap.
@@ -151,7 +178,8 @@ looks-after-the-last x arrival n e t =
     ap (λ (m : ℕ). firstFrom (x .sizes .Q) (canBeAsked x arrival) m (queueAfter (x .sizes .Q) (x .lastAsked))) e ∙ rw t
 
 -- The queue asked is noted; "a refused slot or a caller's own request leaves it unchanged".
-pub handed-on : (x : State) (store : List ℕ) (call : Call) → accept x store call .state .lastAsked ≡ x .lastAsked
+pub handed-on : (x : State) (store : List ℕ) (call : Call)
+    → carriedOut 0 0 x store call .state .lastAsked ≡ x .lastAsked
 handed-on x store call = refl
 
 pub noted-as-last : (last : ℕ) (a : Answer) → noting last a .state .lastAsked ≡ last

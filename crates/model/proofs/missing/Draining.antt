@@ -15,7 +15,7 @@ use Rattle.model.specs.Sizes.{Limits, span, headSize, storeBytes, oneFew
 use Rattle.model.specs.State.{Byte, Cell, empty, held, owed, State, countOf, owes, headBytes, ringOf, blocks}
 use Rattle.model.specs.Slot.{Call, oldestCell, isOwed, tailLeft, moves, queueToWrite, queueToRead, blockAt}
 use Rattle.model.specs.Slot.{afterRead, afterPhase, joined, asked, wrote, wroteStore, requestUnknown}
-use Rattle.model.specs.Slot.{nothingToTake, leavesUncovered, headFull}
+use Rattle.model.specs.Slot.{nothingToTake, leavesUncovered, headFull, halvesTaken}
 use Rattle.model.proofs.basics.Tests.{by-test, by-zero, by-option, at-queue, eqb-same}
 use Rattle.model.proofs.basics.Sums.{sum, sum-bound-zero, sum-shift}
 use Rattle.model.proofs.basics.Bytes.{sum-counts, count-refilled}
@@ -23,6 +23,7 @@ use Rattle.model.proofs.basics.Rings.{ring-set-same, ring-set-other, bl
 use Rattle.model.proofs.one_slot.Rules.{Rules}
 use Rattle.model.proofs.one_slot.MovesKeepRules.{ReadTaken}
 use Rattle.model.proofs.one_slot.StepsKeepRules.{count-head-without}
+use Rattle.model.proofs.one_slot.Halves.{all-left}
 use Rattle.model.proofs.one_slot.Accepted.{earlyRefusals}
 use Rattle.model.proofs.one_slot.Kept.{write-taken, read-taken}
 use Rattle.model.proofs.missing.Slots.{Meets8, Runnable, stateAfter, storeAfter, span-and-queues, queues-in-span}
@@ -162,12 +163,15 @@ module _ {limits : Limits} {gone : ℕ → ℕ} {i : ℕ} {x : State} {store : L
       → Meets8 limits (stateAfter x store call) (storeAfter x store call) calls)
       → Meets8 limits x store (call ∷ calls)
   drains-on known there covered rest =
-      meets-later ready call calls early
+      meets-later ready call calls whole early
       (head-takes stored long rules draining (ready .block-two) (queueToRead z) (read-taken _ z rules))
       (λ r. rest r (draining-on stored long rules draining))
     where
       early : firstRefusal (earlyRefusals (oneFewer limits) x store call) ≡ 0
-      early = rw (not-3 ready, not-2 ready, known, there, covered)
+      early = rw (not-3 ready, not-2 ready, known, covered)
+
+      whole : halvesTaken x call ≡ call
+      whole = all-left x call refl there
 
       y : State
       y = asked x call
@@ -179,10 +183,10 @@ module _ {limits : Limits} {gone : ℕ → ℕ} {i : ℕ} {x : State} {store : L
       stored = wroteStore x store call
 
       rules : Rules (span (x .sizes)) z
-      rules = rules-to-read ready call calls early
+      rules = rules-to-read ready call calls whole early
 
       long : storeBytes (x .sizes) ≤ length stored
-      long = store-to-read ready call calls early
+      long = store-to-read ready call calls whole early
 
       draining-asked : Draining goneAfter (suc i) y
       draining-asked = record {

@@ -16,7 +16,7 @@ use Rattle.model.specs.Sizes.{Sizes, Limits, span, tailSize, oneFewer}
 use Rattle.model.specs.State.{Byte, byte, Cell, empty, Ring, ring, State, countOf, owedOf, tailBytes, headBytes}
 use Rattle.model.specs.State.{ringOf, blocks}
 use Rattle.model.specs.Slot.{Call, without, oldestCell, moves, fullest, queueToWrite, afterWrite, queueToRead}
-use Rattle.model.specs.Slot.{afterRead, afterPhase, asked, wrote}
+use Rattle.model.specs.Slot.{afterRead, afterPhase, asked, wrote, halvesTaken}
 use Rattle.model.specs.Calls.{idles}
 use Rattle.model.specs.Demand.{blockOfArrivals, fillFrom, requestsFrom}
 use Rattle.model.proofs.basics.Tests.{by-test, by-option, at-queue, eqb-same}
@@ -25,6 +25,7 @@ use Rattle.model.proofs.basics.Cells.{owed-empties}
 use Rattle.model.proofs.meaning.Fullest.{fullest-some, fullest-none}
 use Rattle.model.proofs.meaning.Scan.{scan-some}
 use Rattle.model.proofs.basics.Rings.{ring-set-same, ring-set-other}
+use Rattle.model.proofs.one_slot.Halves.{all-left}
 use Rattle.model.proofs.one_slot.Accepted.{earlyRefusals}
 use Rattle.model.proofs.one_slot.Kept.{read-scan}
 use Rattle.model.proofs.missing.Slots.{Meets8, Runnable, stateAfter, storeAfter, span-and-queues, replicate-snoc}
@@ -119,6 +120,9 @@ module _ {limits : Limits} {q j : ℕ} {x : State} {store : List ℕ} (calls : L
       lt-leb (tailSize (x .sizes)) (length (x .tail))
       (omega (arith, short, ap length (v .tail-is), length-replicate j (byte q 0)))
 
+  all-taken : halvesTaken x call ≡ call
+  all-taken = all-left x call (rw ring-room) refl
+
   none-early : firstRefusal (earlyRefusals (oneFewer limits) x store call) ≡ 0
   none-early =
       rw (
@@ -146,7 +150,7 @@ module _ {limits : Limits} {q j : ℕ} {x : State} {store : List ℕ} (calls : L
       → (Runnable limits next nextStore → Filling p i next → Meets8 limits next nextStore calls)
       → Meets8 limits x store (call ∷ calls)
   arrived o p i e w rest =
-      meets-later ready call calls none-early (rw none-read) (λ r. rest r (rw (none-read, e) w))
+      meets-later ready call calls all-taken none-early (rw none-read) (λ r. rest r (rw (none-read, e) w))
 
   -- Not yet a block: nothing is written.
   more-bytes : suc j < x .sizes .b

@@ -1,7 +1,7 @@
 -- One slot of a list that meets an 8, for the design with one lookahead cell fewer: a slot that answers 8 meets it at
 -- once, and an accepted slot leaves it to the slots after it, with state and store as ready for them as it got them.
 -- `meets-now` and `meets-later` say it.
-use mathlib.Core.Path.{_≡_, ap, _∙_}
+use mathlib.Core.Path.{_≡_, ap, sym, _∙_, subst}
 use mathlib.Core.Bool.{Bool, true, false, not}
 use mathlib.Core.List.{List, [], _∷_, _++_}
 use Prim.Native.Nat.{ℕ, suc, _+_, _-_, _*_, _≤_}
@@ -13,15 +13,15 @@ use borrow.Author.Tests.{le-ltb}
 use Rattle.model.specs.Basics.{someOf, when, firstRefusal}
 use Rattle.model.specs.Sizes.{Sizes, Limits, span, storeBytes, oneFewer}
 use Rattle.model.specs.State.{State, keeps}
-use Rattle.model.specs.Slot.{Call, wrote, wroteStore, queueToRead, headFull, refusal, accept}
+use Rattle.model.specs.Slot.{Call, wrote, wroteStore, queueToRead, headFull, halvesTaken, refusal, carriedOut}
 use Rattle.model.specs.Lists.{run}
 use Rattle.model.specs.Demand.{answers8}
 use Rattle.model.proofs.basics.FirstRefusal.{last-refusal}
 use Rattle.model.proofs.basics.Rings.{times-pred}
 use Rattle.model.proofs.basics.Limits.{within-limits}
 use Rattle.model.proofs.one_slot.Rules.{Rules, Keeps, keeps-holds}
-use Rattle.model.proofs.one_slot.Accepted.{Judged, earlyRefusals, judged-facts, accepted-facts}
-use Rattle.model.proofs.one_slot.Kept.{Kept, accept-kept, rules-written, still-long}
+use Rattle.model.proofs.one_slot.Accepted.{Judged, Accepted, earlyRefusals, judged-facts, accepted-facts}
+use Rattle.model.proofs.one_slot.Kept.{Kept, carried-kept, rules-written, still-long}
 
 -- Some slot of the list answers 8.
 abbrev pub Meets8 : Limits → State → List ℕ → List Call → Type 0
@@ -33,12 +33,12 @@ pub record Runnable (limits : Limits) (x : State) (store : List ℕ) : Type 0 wh
   pub store-long : storeBytes (x .sizes) ≤ length store
   pub block-two : 2 ≤ x .sizes .b
 
--- State and store as an accepted slot leaves them.
+-- State and store as an accepted slot leaves them of which no half is dropped.
 abbrev pub stateAfter : State → List ℕ → Call → State
-stateAfter x store call = accept x store call .state
+stateAfter x store call = carriedOut 0 0 x store call .state
 
 abbrev pub storeAfter : State → List ℕ → Call → List ℕ
-storeAfter x store call = accept x store call .store
+storeAfter x store call = carriedOut 0 0 x store call .store
 
 -- Q(b - 1) is Q less than Q × b, and at least Q where b is at least 2.
 pub span-and-queues : (s : Sizes) → 2 ≤ s .b → span s + s .Q ≡ s .Q * s .b
@@ -73,9 +73,11 @@ module _ {limits : Limits} {x : State} {store : List ℕ} (ready : Runnable limi
     pub meets-now : refusal (oneFewer limits) x store call ≡ 8 → Meets8 limits x store (call ∷ calls)
     meets-now e = rw e
 
-    module _ (early : firstRefusal (earlyRefusals (oneFewer limits) x store call) ≡ 0) where
+    -- No half of the call is dropped.
+    module _ (whole : halvesTaken x call ≡ call)
+        (early : firstRefusal (earlyRefusals (oneFewer limits) x store call) ≡ 0) where
       judged : Judged (oneFewer limits) x store call
-      judged = judged-facts (oneFewer limits) x store call early
+      judged = subst (Judged (oneFewer limits) x store) whole (judged-facts (oneFewer limits) x store call early)
 
       pub rules-to-read : Rules (span (x .sizes)) (wrote x call)
       rules-to-read = rules-written (oneFewer limits) x store call cells-some judged
@@ -88,17 +90,22 @@ module _ {limits : Limits} {x : State} {store : List ℕ} (ready : Runnable limi
           → (Runnable limits (stateAfter x store call) (storeAfter x store call)
           → Meets8 limits (stateAfter x store call) (storeAfter x store call) calls)
           → Meets8 limits x store (call ∷ calls)
-      meets-later head-room rest = rw no-refusal (rest ready-after)
+      meets-later head-room rest =
+          rw no-refusal
+          (subst (λ (c : Call). Meets8 limits (stateAfter x store c) (storeAfter x store c) calls) (sym whole)
+          (rest ready-after))
         where
           no-refusal : refusal (oneFewer limits) x store call ≡ 0
           no-refusal =
               last-refusal (earlyRefusals (oneFewer limits) x store call) _ early
+              ∙ ap (λ (c : Call). when (headFull (wrote x c) (queueToRead (wrote x c))) 10) whole
               ∙ ap (λ (t : Bool). when t 10) head-room
 
-          kept-after : Kept (oneFewer limits) x store (accept x store call)
+          kept-after : Kept (oneFewer limits) x store (carriedOut 0 0 x store call)
           kept-after =
-              accept-kept (oneFewer limits) x store call cells-some
-              (accepted-facts (oneFewer limits) x store call no-refusal)
+              carried-kept (oneFewer limits) x store call cells-some
+              (subst (Accepted (oneFewer limits) x store) whole
+              (accepted-facts (oneFewer limits) x store call no-refusal))
 
           ready-after : Runnable limits (stateAfter x store call) (storeAfter x store call)
           ready-after = record {

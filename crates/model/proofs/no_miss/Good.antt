@@ -13,11 +13,11 @@ use borrow.Author.Tests.{eqb-true, lt-leb, le-ltb}
 use Rattle.model.specs.Basics.{choose, when, All}
 use Rattle.model.specs.Sizes.{storeBytes, Sizes, Limits, accepts, span, lookahead, tailSize, headSize, full}
 use Rattle.model.specs.State.{keeps, Byte, State, fresh, ringOf, withLastAsked}
-use Rattle.model.specs.Slot.{arrivalUnknown, arrivalFull, requestUnknown, nothingToTake, Call, afterDelivery}
+use Rattle.model.specs.Slot.{arrivalUnknown, requestUnknown, halvesTaken, Call, afterDelivery}
 use Rattle.model.specs.Slot.{arriving, afterRequest, earlyArrival, lateArrival, tailFound}
 use Rattle.model.specs.Slot.{moves, queueToWrite, afterWrite, queueToRead, blockAt, bytesFor, headRead, afterRead}
 use Rattle.model.specs.Slot.{afterPhase, joined, asked, wrote, wroteStore, refilled, tailFull, headFull, refusal}
-use Rattle.model.specs.Slot.{Answer, accept}
+use Rattle.model.specs.Slot.{Answer, carriedOut}
 use Rattle.model.proofs.basics.AllOf.{_also_}
 use Rattle.model.proofs.basics.Tests.{by-test, none-not-some}
 use Rattle.model.proofs.basics.FirstRefusal.{low-refusal, when-le}
@@ -28,7 +28,7 @@ use Rattle.model.proofs.one_slot.Swap.{joins-once, length-found}
 use Rattle.model.proofs.one_slot.Accepted.{Judged, earlyRefusals, judged-facts, RefusedOrAccepted}
 use Rattle.model.proofs.one_slot.Accepted.{was-refused, was-accepted}
 use Rattle.model.proofs.one_slot.Kept.{rules-2, rules-3, rules-written, rules-refilled, block-whole}
-use Rattle.model.proofs.one_slot.Kept.{accept-kept}
+use Rattle.model.proofs.one_slot.Kept.{carried-kept}
 use Rattle.model.proofs.no_miss.Invariant.{Invariant, invariant-fresh, invariant-delivered, invariant-arrived}
 use Rattle.model.proofs.no_miss.Invariant.{invariant-asked, invariant-wrote, invariant-read, oldest-covered}
 use Rattle.model.proofs.no_miss.Invariant.{head-bounded, invariant-heavier}
@@ -151,13 +151,14 @@ module _ (limits : Limits) (x : State) (store : List ℕ) (call : Call)
       (read-none (suc p) (suc p) (suc p) z store′ (queueToRead z) (no-move-no-read z t)
       (wrote-none (suc p) (suc p) (suc p) y (queueToWrite y) (no-move-no-write y t) invariant-3)))
 
-  pub accept-good : Good limits (accept x store call .state)
-  accept-good = record {
-    kept = accept-kept (full limits) x store call cells-ok (record { judged = j; head-room = no-10 }) .kept;
+  pub carried-good : Good limits (carriedOut 0 0 x store call .state)
+  carried-good = record {
+    kept = carried-kept (full limits) x store call cells-ok {i = 0} {j = 0} (record { judged = j; head-room = no-10 })
+        .kept;
     invariant = invariant-next;
   }
 
--- Every refusal of a slot on a good state is 7 or lower.
+-- Every refusal of a slot on a good state is 6 or lower.
 module _ (limits : Limits) (x : State) (store : List ℕ) (call : Call) (good : Good limits x) where
   pub no-9 : (arrival : Option Byte) (request : Option ℕ) → tailFull x arrival request ≡ false
   no-9 none request = refl
@@ -165,29 +166,30 @@ module _ (limits : Limits) (x : State) (store : List ℕ) (call : Call) (good : 
       lt-leb (tailSize (x .sizes)) (length (tailFound x (some y) request))
       (omega (arith, length-found x (some y) request, good .invariant .tail-light, good .kept .phase-ok))
 
-  -- Refusals 3, 2, 4, 5, 6 and 7 as they may be, 8 and 9 ruled out.
-  early-low : All (λ (n : ℕ). n ≤ 7) (earlyRefusals (full limits) x store call)
+  abbrev left : Call
+  left = halvesTaken x call
+
+  -- Refusals 3, 2, 4 and 6 as they may be, 8 and 9 ruled out.
+  early-low : All (λ (n : ℕ). n ≤ 6) (earlyRefusals (full limits) x store call)
   early-low =
-      when-le 7 (not (keeps (full limits) x)) 3 (omega arith)
-      also when-le 7 (ltb (length store) (storeBytes (x .sizes))) 2 (omega arith)
-      also when-le 7 (arrivalUnknown x (call .arrival)) 4 (omega arith)
-      also when-le 7 (arrivalFull x (call .arrival) (call .request)) 5 (omega arith)
-      also when-le 7 (requestUnknown x (call .request)) 6 (omega arith)
-      also when-le 7 (nothingToTake x (call .arrival) (call .request)) 7 (omega arith)
+      when-le 6 (not (keeps (full limits) x)) 3 (omega arith)
+      also when-le 6 (ltb (length store) (storeBytes (x .sizes))) 2 (omega arith)
+      also when-le 6 (arrivalUnknown x (call .arrival)) 4 (omega arith)
+      also when-le 6 (requestUnknown x (call .request)) 6 (omega arith)
       also rw (oldest-covered (x .phase) x (good .kept .phase-ok) (good .invariant)) (omega arith)
-      also rw (no-9 (call .arrival) (call .request)) (omega arith)
+      also rw (no-9 (left .arrival) (left .request)) (omega arith)
       also tt
 
-  pub refusal-low : refusal (full limits) x store call ≤ 7
+  pub refusal-low : refusal (full limits) x store call ≤ 6
   refusal-low =
-      low-refusal 7 (earlyRefusals (full limits) x store call)
-      (when (headFull (wrote x call) (queueToRead (wrote x call))) 10) early-low
-      (λ e. rw (no-10 limits x store call good (judged-facts (full limits) x store call e)))
+      low-refusal 6 (earlyRefusals (full limits) x store call)
+      (when (headFull (wrote x left) (queueToRead (wrote x left))) 10) early-low
+      (λ e. rw (no-10 limits x store left good (judged-facts (full limits) x store call e)))
 
 -- A slot on a good state: its number, and the state that it leaves.
 pub record GoodSlot (limits : Limits) (x : State) (store : List ℕ) (a : Answer) : Type 0 where
   pub good : Good limits (a .state)
-  pub low : a .reply .number ≤ 7
+  pub low : a .reply .number ≤ 6
   pub same-sizes : a .state .sizes ≡ x .sizes
   pub same-length : length (a .store) ≡ length store
 
@@ -200,10 +202,10 @@ slot-good limits x store call a g (was-refused n e) = record {
   same-length = refl;
 }
 slot-good limits x store call a g (was-accepted f) = record {
-  good = accept-good limits x store call g (f .judged);
+  good = carried-good limits x store (halvesTaken x call) g (f .judged);
   low = omega arith;
   same-sizes = refl;
-  same-length = accept-kept (full limits) x store call (omega arith) f .same-length;
+  same-length = carried-kept (full limits) x store (halvesTaken x call) (omega arith) {i = 0} {j = 0} f .same-length;
 }
 
 -- What is noted as the last one asked has no say in it, as long as it is a queue.

@@ -1,12 +1,13 @@
 -- A slot is refused whole, or accepted with none of the refusals, since it answers the first of them and 0 where
--- there is none: `outcome`. And what it tells of state, store and call that none of them holds: `accepted-facts`.
+-- there is none: `outcome`. And what it tells of state, store and what is left of the call that none of them holds:
+-- `accepted-facts`. Whatever is proved of an accepted slot is proved of a call that is `Judged`.
 use mathlib.Core.Path.{_≡_, refl, ap, sym, _∙_, subst}
 use mathlib.Core.Bool.{false, not}
 use mathlib.Core.List.{List, [], _∷_, _++_}
 use mathlib.Core.Option.{Option, some}
 use Prim.Native.Nat.{ℕ, zero, suc, _+_, _*_, _<_, _≤_}
 use native.Mathlib.Omega.{arith}
-use lib.Dec.{leb}
+use lib.Dec.{ltb, leb}
 use lib.ListN.{length, take, getD}
 use borrow.Author.Tests.{eqb-false, ne-eqb, leb-false, ltb-false, not-false}
 use Rattle.model.specs.Basics.{when, firstRefusal}
@@ -15,7 +16,7 @@ use Rattle.model.specs.State.{Byte, State, countOf, tailBytes, blocks, k
 use Rattle.model.specs.Slot.{Call, arriving, isOwed, oldestCell, isFull, swaps, earlyArrival, wrote, queueToRead}
 use Rattle.model.specs.Slot.{arrivalUnknown, arrivalFull, requestUnknown, nothingToTake, leavesUncovered}
 use Rattle.model.specs.Slot.{tailFound, tailFull, headFull, refusals, refusal, Answer, accept, refuse, answer}
-use Rattle.model.specs.Slot.{slot}
+use Rattle.model.specs.Slot.{halvesTaken, slot}
 use Rattle.model.specs.Lists.{Step, stepOf, run, lastState, lastStore, accepted}
 use Rattle.model.proofs.basics.Bytes.{count-append}
 use Rattle.model.proofs.basics.Tests.{by-test, by-zero, some-inj, true-not-false}
@@ -23,11 +24,13 @@ use Rattle.model.proofs.basics.FirstRefusal.{no-refusal-at, when-zero}
 use Rattle.model.proofs.meaning.Steps.{seven-there}
 use Rattle.model.proofs.one_slot.Rules.{Rules, Keeps, keeps-facts}
 use Rattle.model.proofs.one_slot.StepsKeepRules.{ArrivalTaken}
+use Rattle.model.proofs.one_slot.Halves.{left-not-full, left-something, left-arrival-known, left-request-known}
+use Rattle.model.proofs.one_slot.Halves.{left-once}
 use Rattle.model.proofs.one_slot.Swap.{swap-facts, early-is, early-swaps-not, five-as-before, nine-as-before}
 
--- Refusals 3, 2 and 4 to 9, all but 10.
+-- All refusals but 10.
 abbrev pub earlyRefusals : Design → State → List ℕ → Call → List ℕ
-earlyRefusals design x store call = take 8 (refusals design x store call)
+earlyRefusals design x store call = take 6 (refusals design x store call)
 
 -- None of those: the state keeps the rules, the store is long enough, and arrival, request and delivery can be had. The
 -- arrival that finds room at once is the early one; the late one's room is the request's to make (`late-taken`).
@@ -114,44 +117,93 @@ tail-takes x call e y s =
     comes = early-comes x call y s
 
 module _ (design : Design) (x : State) (store : List ℕ) (call : Call) where
-  pub judged-facts : firstRefusal (earlyRefusals design x store call) ≡ 0 → Judged design x store call
+  -- Of a call what is left of it.
+  abbrev left : Call
+  left = halvesTaken x call
+
+  pub judged-facts : firstRefusal (earlyRefusals design x store call) ≡ 0 → Judged design x store left
   judged-facts e = record {
     kept = rules-kept;
     store-long = ltb-false (length store) (storeBytes (x .sizes)) (when-zero _ 1 (none-at 1));
-    arrival-known = known-arrival x (call .arrival) (when-zero _ 3 (none-at 2));
-    arrival-ok = arrival-taken x call (when-zero _ 3 (none-at 2)) (when-zero _ 4 (none-at 3)) _ (rules-kept .within);
-    request-ok = request-known x (call .request) (when-zero _ 5 (none-at 4));
-    byte-there = early-to-take x call (when-zero _ 6 (none-at 5));
-    covered = when-zero _ 7 (none-at 6);
-    tail-room = tail-takes x call (when-zero _ 8 (none-at 7));
+    arrival-known = known-arrival x (left .arrival) known;
+    arrival-ok = arrival-taken x left known (left-not-full x call) _ (rules-kept .within);
+    request-ok = request-known x (left .request) (left-request-known x call (when-zero _ 5 (none-at 3)));
+    byte-there = early-to-take x left (left-something x call);
+    covered = when-zero _ 7 (none-at 4);
+    tail-room = tail-takes x left (when-zero _ 8 (none-at 5));
   }
     where
       none-at : (i : ℕ) → getD (earlyRefusals design x store call) i 0 ≡ 0
       none-at i = no-refusal-at (earlyRefusals design x store call) i e
+
+      known : arrivalUnknown x (left .arrival) ≡ false
+      known = left-arrival-known x call (when-zero _ 3 (none-at 2))
 
       rules-kept : Keeps design x
       rules-kept = keeps-facts design x (not-false (keeps design x) (when-zero (not (keeps design x)) 2 (none-at 0)))
 
   pub early-none : refusal design x store call ≡ 0 → firstRefusal (earlyRefusals design x store call) ≡ 0
   early-none e = go (earlyRefusals design x store call)
-      (when (headFull (wrote x call) (queueToRead (wrote x call))) 10) e
+      (when (headFull (wrote x left) (queueToRead (wrote x left))) 10) e
     where
       go : (ns : List ℕ) (n : ℕ) → firstRefusal (ns ++ n ∷ []) ≡ 0 → firstRefusal ns ≡ 0
       go [] n e = refl
       go (zero ∷ ns) n e = go ns n e
       go (suc m ∷ ns) n e = absurd (omega (arith, e))
 
-  pub accepted-facts : refusal design x store call ≡ 0 → Accepted design x store call
+  pub accepted-facts : refusal design x store call ≡ 0 → Accepted design x store left
   accepted-facts e = record {
     judged = judged-facts (early-none e);
-    head-room = when-zero _ 9 (no-refusal-at (refusals design x store call) 8 e);
+    head-room = when-zero _ 9 (no-refusal-at (refusals design x store call) 6 e);
   }
+
+-- The number that a slot answers is its first refusal.
+pub refusal-told : (design : Design) (x : State) (store : List ℕ) (call : Call)
+    → slot design x store call .reply .number ≡ refusal design x store call
+refusal-told design x store call = go (refusal design x store call)
+  where
+    go : (n : ℕ) → answer n x store call .reply .number ≡ n
+    go zero = refl
+    go (suc n) = refl
+
+-- What is left of an accepted call is accepted.
+pub left-accepted : (design : Design) (x : State) (store : List ℕ) (call : Call) → refusal design x store call ≡ 0
+    → refusal design x store (halvesTaken x call) ≡ 0
+left-accepted design x store call e =
+    ap (λ (c : Call). firstRefusal (judgedBy c)) (left-once x call)
+    ∙ rw (
+      not-false (keeps design x) (when-zero (not (keeps design x)) 2 (none-at 0)),
+      when-zero (ltb (length store) (storeBytes (x .sizes))) 1 (none-at 1),
+      left-arrival-known x call (when-zero _ 3 (none-at 2)),
+      left-request-known x call (when-zero _ 5 (none-at 3)),
+      when-zero (leavesUncovered (oldestCell (x .cells)) x) 7 (none-at 4),
+      when-zero (tailFull x (left .arrival) (left .request)) 8 (none-at 5),
+      when-zero (headFull (wrote x left) (queueToRead (wrote x left))) 9 (none-at 6),
+    )
+  where
+    left : Call
+    left = halvesTaken x call
+
+    none-at : (i : ℕ) → getD (refusals design x store call) i 0 ≡ 0
+    none-at i = no-refusal-at (refusals design x store call) i e
+
+    -- The refusals of what is left, of which this is left.
+    judgedBy : Call → List ℕ
+    judgedBy c =
+        when (not (keeps design x)) 3 ∷
+        when (ltb (length store) (storeBytes (x .sizes))) 2 ∷
+        when (arrivalUnknown x (halvesTaken x call .arrival)) 4 ∷
+        when (requestUnknown x (halvesTaken x call .request)) 6 ∷
+        when (leavesUncovered (oldestCell (x .cells)) x) 8 ∷
+        when (tailFull x (c .arrival) (c .request)) 9 ∷
+        when (headFull (wrote x c) (queueToRead (wrote x c))) 10 ∷ []
 
 -- A slot is one of the two.
 pub data RefusedOrAccepted (design : Design) (x : State) (store : List ℕ) (call : Call) : Answer → Type 0 where
   was-refused : (n : ℕ) → refusal design x store call ≡ suc n → RefusedOrAccepted design x store call
       (refuse (suc n) x store)
-  was-accepted : Accepted design x store call → RefusedOrAccepted design x store call (accept x store call)
+  was-accepted : Accepted design x store (halvesTaken x call)
+      → RefusedOrAccepted design x store call (accept x store call)
 
 pub outcome : (design : Design) (x : State) (store : List ℕ) (call : Call)
     → RefusedOrAccepted design x store call (slot design x store call)

@@ -9,7 +9,7 @@ use native.Mathlib.Nat.{mod-lt}
 use lib.ListN.{length, take, getD}
 use Rattle.model.specs.Sizes.{Sizes, Design, storeBytes, blockPlace}
 use Rattle.model.specs.State.{State, valuesOf, ringOf}
-use Rattle.model.specs.Slot.{Call, nextBlock, storeWritten, asked, Answer, slot}
+use Rattle.model.specs.Slot.{Call, nextBlock, storeWritten, asked, halvesTaken, Answer, slot}
 use Rattle.model.specs.Lists.{lastStore}
 use Rattle.model.proofs.basics.Tests.{by-option}
 use Rattle.model.proofs.basics.Rings.{place-fits}
@@ -63,12 +63,13 @@ module _ (design : Design) where
       go a (was-refused n e) =
           record { not-written = λ w. refl; outside = λ q w i out. refl; beyond = λ i l. refl }
       go a (was-accepted f) =
-          let taken = write-taken (asked x call) in
-          let kept = rules-3 design x store call cells-ok (f .judged) in
+          let y = asked x (halvesTaken x call) in
+          let taken = write-taken y in
+          let kept = rules-3 design x store (halvesTaken x call) cells-ok (f .judged) in
           record {
-            not-written = λ w. ap (λ (o : Option ℕ). storeWritten o (asked x call) store) w;
-            outside = written-outside _ (asked x call) store _ taken kept (f .judged .store-long);
-            beyond = written-within _ (asked x call) store _ taken kept (f .judged .store-long);
+            not-written = λ w. ap (λ (o : Option ℕ). storeWritten o y store) w;
+            outside = written-outside _ y store _ taken kept (f .judged .store-long);
+            beyond = written-within _ y store _ taken kept (f .judged .store-long);
           }
 
   -- A slot leaves the sizes as they are, so that a whole list changes no byte beyond them either.

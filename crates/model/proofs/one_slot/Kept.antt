@@ -18,7 +18,7 @@ use Rattle.model.specs.Slot.{Call, oldestCell, headWithout, afterDeliver
 use Rattle.model.specs.Slot.{queueToWrite, swaps, earlyArrival, lateArrival}
 use Rattle.model.specs.Slot.{nextBlock, placed, tailWritten, storeWritten, refillQueue, queueToRead, blockAt}
 use Rattle.model.specs.Slot.{bytesFor, headRead, joined, asked, wrote, wroteStore, refilled, headFull, Answer}
-use Rattle.model.specs.Slot.{accept, slot}
+use Rattle.model.specs.Slot.{carriedOut, halvesTaken, slot}
 use Rattle.model.specs.Lists.{joinedFillOf}
 use Rattle.model.proofs.basics.Tests.{by-test, none-not-some}
 use Rattle.model.proofs.basics.Bytes.{length-for, length-without-le}
@@ -243,8 +243,8 @@ pub record Kept (design : Design) (x : State) (store : List ℕ) (a : Answer) : 
 
 module _ (design : Design) (x : State) (store : List ℕ) (call : Call)
     (cells-ok : 1 ≤ design .cellCount (x .sizes)) where
-  pub accept-kept : Accepted design x store call → Kept design x store (accept x store call)
-  accept-kept a = record {
+  pub carried-kept : {i j : ℕ} → Accepted design x store call → Kept design x store (carriedOut i j x store call)
+  carried-kept a = record {
     kept = record {
       sizes-ok = j .kept .sizes-ok;
       phase-ok = next-phase x (j .kept .phase-ok);
@@ -278,10 +278,12 @@ module _ (design : Design) (x : State) (store : List ℕ) (call : Call)
           (block-whole design x store call cells-ok j) (a .head-room)
           (omega (arith, length-head-without (oldestCell (x .cells)) (x .head), j .kept .head-fits))
 
-  -- Accepted or refused, a slot on a state that keeps the rules leaves one that does.
+-- Accepted or refused, a slot on a state that keeps the rules leaves one that does.
+module _ (design : Design) (x : State) (store : List ℕ) (call : Call)
+    (cells-ok : 1 ≤ design .cellCount (x .sizes)) where
   pub slot-kept : Keeps design x → Kept design x store (slot design x store call)
   slot-kept v = go (slot design x store call) (outcome design x store call)
     where
       go : (a : Answer) → RefusedOrAccepted design x store call a → Kept design x store a
       go a (was-refused n e) = record { kept = v; same-sizes = refl; same-length = refl }
-      go a (was-accepted f) = accept-kept f
+      go a (was-accepted f) = carried-kept design x store (halvesTaken x call) cells-ok f

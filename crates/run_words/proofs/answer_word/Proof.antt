@@ -1,4 +1,4 @@
--- `answer_word` meets its contract: each of the three parts is what its own contract says, and all of them fit 64 bits.
+-- `answer_word` meets its contract: each of the five parts is what its own contract says, and all of them fit 64 bits.
 use native.Mathlib.Omega.{arith}
 use borrow.Author.Needs.{needs}
 use Rattle.run_words.specs.Words.{answerWord}
@@ -11,8 +11,8 @@ cast-result c = search needs
 mul-result : tie.Need-mul-result
 mul-result c = search needs
 
-chosen-bits-requires : tie.Need-chosen-bits-requires
-chosen-bits-requires c κs = search needs
+dropped-bit-requires : tie.Need-dropped-bit-requires
+dropped-bit-requires c κs = search needs
 
 mul-result-2 : tie.Need-mul-result-2
 mul-result-2 c = search needs
@@ -20,8 +20,8 @@ mul-result-2 c = search needs
 add-result : tie.Need-add-result
 add-result c = search needs
 
-chosen-bits-requires-2 : tie.Need-chosen-bits-requires-2
-chosen-bits-requires-2 c κs = search needs
+dropped-bit-requires-2 : tie.Need-dropped-bit-requires-2
+dropped-bit-requires-2 c κs = search needs
 
 mul-result-3 : tie.Need-mul-result-3
 mul-result-3 c = search needs
@@ -29,19 +29,42 @@ mul-result-3 c = search needs
 add-result-2 : tie.Need-add-result-2
 add-result-2 c = search needs
 
-delivery-bits-requires : tie.Need-delivery-bits-requires
-delivery-bits-requires c κs = search needs
+chosen-bits-requires : tie.Need-chosen-bits-requires
+chosen-bits-requires c κs = search needs
+
+mul-result-4 : tie.Need-mul-result-4
+mul-result-4 c = search needs
 
 add-result-3 : tie.Need-add-result-3
 add-result-3 c = search needs
 
+chosen-bits-requires-2 : tie.Need-chosen-bits-requires-2
+chosen-bits-requires-2 c κs = search needs
+
+mul-result-5 : tie.Need-mul-result-5
+mul-result-5 c = search needs
+
+add-result-4 : tie.Need-add-result-4
+add-result-4 c = search needs
+
+delivery-bits-requires : tie.Need-delivery-bits-requires
+delivery-bits-requires c κs = search needs
+
+add-result-5 : tie.Need-add-result-5
+add-result-5 c = search needs
+
 returns : tie.Need-returns
 unfolding answerWord
 returns c =
+    let fetched = c .before in
+    let wrote = fetched .before in
+    let arrives = wrote .before in
     omega (
       arith,
-      c .before .before .chosen-bits .ensures .1,
-      c .before .chosen-bits2 .ensures .1,
+      arrives .before .dropped-bit .ensures .1,
+      arrives .dropped-bit2 .ensures .1,
+      wrote .chosen-bits .ensures .1,
+      fetched .chosen-bits2 .ensures .1,
       c .delivery-bits .ensures .1,
     )
 
@@ -51,12 +74,18 @@ answer-word-spec =
     (tie.spec
     cast-result
     mul-result
-    chosen-bits-requires
+    dropped-bit-requires
     mul-result-2
     add-result
-    chosen-bits-requires-2
+    dropped-bit-requires-2
     mul-result-3
     add-result-2
-    delivery-bits-requires
+    chosen-bits-requires
+    mul-result-4
     add-result-3
+    chosen-bits-requires-2
+    mul-result-5
+    add-result-4
+    delivery-bits-requires
+    add-result-5
     returns)

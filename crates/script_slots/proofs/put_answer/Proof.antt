@@ -1,12 +1,22 @@
--- `put_answer` meets its contract: R for a refused slot, D for a delivery, and else no line.
-use mathlib.Core.Path.{ap}
+-- `put_answer` meets its contract: R alone for a slot that was stopped; of one that ran D, then the R of its arrival
+-- and of its request.
 use native.Mathlib.Omega.{arith}
 use borrow.Author.Needs.{needs}
-use Rattle.layout.specs.Calls.{deliveryIn}
-use Rattle.script_slots.proofs.Answers.{refusal-fits, answers-refusal, delivery-fits, answers-delivery}
-use Rattle.script_slots.proofs.Answers.{answers-nothing}
+use Rattle.layout.specs.Calls.{replyIn}
+use Rattle.script_slots.proofs.Answers.{refusal-fits, answers-refusal, delivery-fits, arrival-fits}
+use Rattle.script_slots.proofs.Answers.{request-fits, answers-halves}
 use Rattle.script_slots.proofs.put_answer.Statement.{statement}
 use Rattle.script_slots.proofs.put_answer.Tie as tie
+
+-- The way back through the code: from behind a call to behind the one before it, and to the start.
+abbrev started : tie.After-put-delivered-arg → tie.Start
+started c = c .before .before .before .before
+
+abbrev delivered : tie.After-put-half-arg → tie.After-put-delivered
+delivered c = c .before .before .before
+
+abbrev arrived : tie.After-put-half-arg2 → tie.After-put-half
+arrived c = c .before .before .before
 
 add-count : tie.Need-add-count
 add-count c = omega (arith, c .before .pre .slots-fit)
@@ -14,9 +24,9 @@ add-count c = omega (arith, c .before .pre .slots-fit)
 put-refusal-requires : tie.Need-put-refusal-requires
 put-refusal-requires c κs =
     let at-if1 = c .before in
-    let s = at-if1 .before .before in
+    let s = at-if1 .before .before .before in
     let a = s .args in
-    refusal-fits (a .slots) (a .number) (deliveryIn (a .delivery)) (a .place) _ (at-if1 .if1 .taken) (s .pre)
+    refusal-fits (a .slots) (replyIn (a .reply)) (a .place) _ (at-if1 .if1 .taken) (s .pre)
 
 same-length : tie.Need-same-length
 same-length c = c .before .output .given
@@ -25,48 +35,45 @@ returns : tie.Need-returns
 returns c =
     let at-put-refusal = c .before .before in
     let at-if1 = at-put-refusal .before .before in
-    let s = at-if1 .before .before in
-    let a = s .args in
-    answers-refusal (a .slots) (a .number) (deliveryIn (a .delivery)) (a .place) _ (at-if1 .if1 .taken)
+    let a = at-if1 .before .before .before .args in
+    answers-refusal (a .slots) (replyIn (a .reply)) (a .place) _ (at-if1 .if1 .taken)
     (at-put-refusal .put-refusal .ensures)
 
-enum-known-delivery : tie.Need-enum-known-delivery
-enum-known-delivery c = search needs
-
-put-delivery-requires : tie.Need-put-delivery-requires
-put-delivery-requires c κs =
-    let at-delivery = c .before .before in
-    let at-if1 = at-delivery .before .before in
-    let s = at-if1 .before .before in
+put-delivered-requires : tie.Need-put-delivered-requires
+put-delivered-requires c κs =
+    let s = started c in
     let a = s .args in
-    let gives = at-delivery .delivery .given in
-    delivery-fits (a .slots) (a .number) (deliveryIn (a .delivery)) (a .place) _ (at-if1 .if1 .left)
-    (gives .0 .0) (gives .0 .1 .0) (ap deliveryIn (gives .1)) (s .pre)
+    delivery-fits (a .slots) (replyIn (a .reply)) (a .place) _ (c .before .if1 .left) (s .pre)
 
-enum-told : tie.Need-enum-told
-enum-told c = search needs
+put-half-requires : tie.Need-put-half-requires
+put-half-requires c κs =
+    let at-delivered = delivered c in
+    let s = started (at-delivered .before) in
+    let a = s .args in
+    arrival-fits (a .slots) (replyIn (a .reply)) (a .place) _ (at-delivered .before .before .if1 .left) (s .pre)
+    (at-delivered .put-delivered .ensures)
+
+put-half-requires-2 : tie.Need-put-half-requires-2
+put-half-requires-2 c κs =
+    let at-arrived = arrived c in
+    let at-delivered = delivered (at-arrived .before) in
+    let s = started (at-delivered .before) in
+    let a = s .args in
+    request-fits (a .slots) (replyIn (a .reply)) (a .place) _ (at-delivered .before .before .if1 .left) (s .pre)
+    (at-delivered .put-delivered .ensures) (at-arrived .put-half .ensures)
 
 same-length-2 : tie.Need-same-length-2
-same-length-2 c = c .before .output2 .given
+same-length-2 c = search needs
 
 returns-2 : tie.Need-returns-2
 returns-2 c =
-    let at-put-delivery = c .before .before in
-    let at-delivery = at-put-delivery .before .before .before in
-    let at-if1 = at-delivery .before .before in
-    let s = at-if1 .before .before in
+    let at-request = c .before .before in
+    let at-arrived = arrived (at-request .before) in
+    let at-delivered = delivered (at-arrived .before) in
+    let s = started (at-delivered .before) in
     let a = s .args in
-    let gives = at-delivery .delivery .given in
-    answers-delivery (a .slots) (a .number) (deliveryIn (a .delivery)) (a .place) _ (at-if1 .if1 .left)
-    (gives .0 .0) (gives .0 .1 .0) (ap deliveryIn (gives .1)) (at-put-delivery .put-delivery .ensures)
-
-returns-3 : tie.Need-returns-3
-returns-3 c =
-    let at-if1 = c .before .before in
-    let s = at-if1 .before .before in
-    let a = s .args in
-    answers-nothing (a .slots) (a .number) (deliveryIn (a .delivery)) (a .place) _ (at-if1 .if1 .left)
-    (ap deliveryIn (c .enum-told .given .1))
+    answers-halves (a .slots) (replyIn (a .reply)) (a .place) _ (at-delivered .before .before .if1 .left) (s .pre)
+    (at-delivered .put-delivered .ensures) (at-arrived .put-half .ensures) (at-request .put-half2 .ensures)
 
 pub put-answer-spec : {M : Type 1} → statement M
 put-answer-spec =
@@ -76,9 +83,8 @@ put-answer-spec =
     put-refusal-requires
     same-length
     returns
-    enum-known-delivery
-    put-delivery-requires
-    enum-told
+    put-delivered-requires
+    put-half-requires
+    put-half-requires-2
     same-length-2
-    returns-2
-    returns-3)
+    returns-2)

@@ -1,5 +1,5 @@
 -- `advance` meets its contract: it decides as the model does (Deciding), and carries out what the model accepts.
-use mathlib.Core.Path.{refl}
+use mathlib.Core.Path.{refl, _∙_}
 use native.Mathlib.Omega.{arith}
 use borrow.Author.Needs.{needs}
 use Rattle.model.specs.Slot.{Call}
@@ -70,7 +70,8 @@ turn-requires c κs =
     let s = start plan in
     let r = s .pre in
     let says = plan .decide .ensures in
-    let none = accepted .if1 .left in (
+    let none = accepted .if1 .left in
+    let halves = deciding.halves-there r (asked-call s) says none in (
       standing.kept r .sizes-ok,
       r .tallies .tails-are .long,
       r .tallies .heads-are .long,
@@ -79,10 +80,10 @@ turn-requires c κs =
       standing.heads-small r,
       standing.owing-small r,
       deciding.leaving-there r (asked-call s) says none,
-      deciding.arrival-there r (asked-call s) says none,
-      deciding.request-there r (asked-call s) says none,
-      deciding.byte-there r (asked-call s) says none,
-      deciding.block-there r (asked-call s) says none,
+      halves .0,
+      halves .1,
+      halves .2,
+      halves .3,
       deciding.read-there r (asked-call s) says none,
     )
 
@@ -107,11 +108,15 @@ returns-2 c =
     let says = plan .decide .ensures in
     let none = not-0 .if1 .left in
     let carried = carried-out .carry .ensures in
+    let taken = callIn (plan .decide .result .arrival) (plan .decide .result .request) in
     let all = deciding.decided r (asked-call s) says none in (
       record {
-        answer-is = standing.accepted-slot r (asked-call s) (all .accepted) carried
-            (reply-is _ _ refl refl refl (carried .delivery-is) (all .written-is) (all .read-is)) refl refl;
-        ready = standing.carried-ready r (asked-call s) (all .accepted) carried
+        answer-is =
+            standing.carried-answer r taken all (plan .decide .result .«arrival_number»)
+            (plan .decide .result .«request_number») carried
+            (reply-is _ _ refl refl refl (carried .delivery-is) (all .written-is) (all .read-is)) refl refl
+            ∙ deciding.carries r (asked-call s) says none;
+        ready = standing.carried-ready r taken all carried
             (deciding.counted r (asked-call s) says none (counted .turn .ensures));
       },
       λ f. absurd (f refl),

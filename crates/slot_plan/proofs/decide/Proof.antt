@@ -15,7 +15,7 @@ use Rattle.layout.specs.Calls.{callIn}
 use Rattle.layout.specs.Views.{sizesIn}
 use Rattle.layout.proofs.Ranges.{in-limits}
 use Rattle.slot_plan.proofs.Reading.{oldest-is, oldest-below}
-use Rattle.slot_plan.proofs.Planning.{leaving-has-byte, owes-known, arrival-known, byte-known}
+use Rattle.slot_plan.proofs.Planning.{leaving-has-byte, owed-known, arrival-known, byte-known}
 use Rattle.slot_plan.proofs.Planning.{refused-early, refused-full, plan-accepted}
 use Rattle.slot_plan.proofs.decide.Statement.{statement}
 use Rattle.slot_plan.proofs.decide.Tie as tie
@@ -65,8 +65,8 @@ returns c =
     let s = start judged in
     let a = s .args in
     refused-early (a .regs) (a .tails .now) (a .heads .now) (a .owing .now) (a .stored .now) (cellsAt s)
-    (callAt s) (cell-is s) (judged .before .is-owed .ensures) (judged .judge-early .ensures)
-    (c .before .if1 .taken) (c .refused .ensures)
+    (callAt s) (cell-is s) (judged .before .is-owed .ensures) (judged .judge-early .result)
+    (judged .judge-early .ensures) (c .before .if1 .taken) (c .refused .ensures)
 
 to-read-requires : tie.Need-to-read-requires
 to-read-requires c κs =
@@ -75,10 +75,12 @@ to-read-requires c κs =
     let a = s .args in
     let has-byte =
     leaving-has-byte (a .regs) (a .tails .now) (a .heads .now) (a .owing .now) (a .stored .now) (cellsAt s)
-    (callAt s) (cell-is s) (judged .before .is-owed .ensures) (judged .judge-early .ensures) (c .if1 .left) in
+    (callAt s) (cell-is s) (judged .before .is-owed .ensures) (judged .judge-early .result)
+    (judged .judge-early .ensures) (c .if1 .left) in
     let known =
-    owes-known (a .regs) (a .tails .now) (a .heads .now) (a .owing .now) (a .stored .now) (cellsAt s)
-    (callAt s) (cell-is s) (judged .before .is-owed .ensures) (judged .judge-early .ensures) in (
+    owed-known (a .regs) (a .tails .now) (a .heads .now) (a .owing .now) (a .stored .now) (cellsAt s)
+    (callAt s) (cell-is s) (judged .before .is-owed .ensures) (judged .judge-early .result)
+    (judged .judge-early .ensures) (c .if1 .left) in (
       s .pre .0,
       s .pre .1,
       s .pre .4,
@@ -101,8 +103,8 @@ returns-2 c =
     let s = start judged in
     let a = s .args in
     refused-full (a .regs) (a .tails .now) (a .heads .now) (a .owing .now) (a .stored .now) (cellsAt s)
-    (callAt s) (cell-is s) (judged .before .is-owed .ensures) (judged .judge-early .ensures)
-    (found .before .if1 .left) (found .to-read .result) (found .to-read .ensures)
+    (callAt s) (cell-is s) (judged .before .is-owed .ensures) (judged .judge-early .result)
+    (judged .judge-early .ensures) (found .before .if1 .left) (found .to-read .result) (found .to-read .ensures)
     (c .before .before .head-full .ensures) (c .before .if2 .taken) (c .refused2 .ensures)
 
 to-write-requires : tie.Need-to-write-requires
@@ -114,10 +116,12 @@ to-write-requires c κs =
     let few = in-limits (a .regs) (s .pre .0) .q-high in
     let arrives =
     arrival-known (a .regs) (a .tails .now) (a .heads .now) (a .owing .now) (a .stored .now) (cellsAt s) (callAt s)
-    (cell-is s) (judged .before .is-owed .ensures) (judged .judge-early .ensures) (found .before .if1 .left) in
+    (cell-is s) (judged .before .is-owed .ensures) (judged .judge-early .result) (judged .judge-early .ensures)
+    (found .before .if1 .left) in
     let finds =
     byte-known (a .regs) (a .tails .now) (a .heads .now) (a .owing .now) (a .stored .now) (cellsAt s) (callAt s)
-    (cell-is s) (judged .before .is-owed .ensures) (judged .judge-early .ensures) (found .before .if1 .left) in (
+    (cell-is s) (judged .before .is-owed .ensures) (judged .judge-early .result) (judged .judge-early .ensures)
+    (found .before .if1 .left) in (
       s .pre .0,
       s .pre .1,
       s .pre .3,
@@ -134,8 +138,8 @@ returns-3 c =
     let s = start judged in
     let a = s .args in
     plan-accepted (a .regs) (a .tails .now) (a .heads .now) (a .owing .now) (a .stored .now) (cellsAt s)
-    (callAt s) (cell-is s) (judged .before .is-owed .ensures) (judged .judge-early .ensures)
-    (found .before .if1 .left) (found .to-read .result) (found .to-read .ensures)
+    (callAt s) (cell-is s) (judged .before .is-owed .ensures) (judged .judge-early .result)
+    (judged .judge-early .ensures) (found .before .if1 .left) (found .to-read .result) (found .to-read .ensures)
     (full .before .head-full .ensures) (full .if2 .left) (c .to-write .result) (c .to-write .ensures)
 
 pub decide-spec : {M : Type 1} → statement M

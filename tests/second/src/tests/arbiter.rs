@@ -1,7 +1,7 @@
 //! Request 2.2: the arbiter asks for the next queue that has an unrequested byte, counting up from the last one asked.
 //! A queue that has one is asked for within Q accepted slots, so its front byte leaves at most Q - 1 + L slots later.
 
-use super::{arbiter_slot, check_list, fresh, is_swap, sizes, slot, Accepted, Call};
+use super::{any_traffic, arbiter_slot, check_list, fresh, is_swap, moves_nothing, sizes, slot, Accepted, Call};
 use crate::arbiter::{ArbiterAnswer, Asker};
 use crate::arbiter_cases::{leaning_queue, leaning_state};
 use crate::arbiter_lists::Turns;
@@ -21,8 +21,12 @@ fn turn(state: &mut RawState, arrival: Option<(usize, u8)>) -> ArbiterAnswer {
 
 /// An accepted slot that moves no byte but the one that is asked for.
 fn asks(queue: Option<usize>) -> ArbiterAnswer {
-    let answer = Answer { number: 0, delivered: None, written: None, read: None };
-    ArbiterAnswer { answer, asked: queue }
+    ArbiterAnswer { answer: moves_nothing([0; 3]), asked: queue }
+}
+
+/// The same with an arrival that is dropped.
+fn drops_and_asks(queue: Option<usize>) -> ArbiterAnswer {
+    ArbiterAnswer { answer: moves_nothing([0, 5, 0]), asked: queue }
 }
 
 /// Q 2, b 2, K 1, phase 0: such tail bytes, and the last one asked.
@@ -109,8 +113,9 @@ fn an_arrival_to_a_full_queue_does_not_count() {
     let before = full_and_owed();
     assert_eq!(Buffer::from_raw(&before).choice(Some((0, 9))), None);
     let mut state = before.clone();
-    assert_eq!(turn(&mut state, Some((0, 9))), ArbiterAnswer::refused(5));
-    assert_eq!(state, before);
+    assert_eq!(turn(&mut state, Some((0, 9))), drops_and_asks(None));
+    let cells = vec![Cell::Owed(0), Cell::Owed(0), Cell::Empty];
+    assert_eq!(state, RawState { phase: 1, cells, ..before.clone() });
     // With room for it the same arrival is asked for.
     let mut deeper = RawState { sizes: sizes(2, 2, 2), ..before };
     assert_eq!(turn(&mut deeper, Some((0, 9))), asks(Some(0)));
@@ -126,18 +131,32 @@ fn a_full_queue_is_asked_for_its_older_bytes_and_swaps() {
     assert_eq!(state, RawState { phase: 1, tail: vec![(0, 8), (0, 9)], cells, last_asked: 0, ..before });
 }
 
-/// The full queue's older bytes are stored, so the request would be Owed; or it is another queue's turn.
+/// The full queue's older bytes are stored, so the request would be Owed; or it is another queue's turn. The arrival is
+/// dropped, and the queue asked is noted.
 #[test]
 fn a_full_queue_that_does_not_swap_answers_5() {
     let mut stored = two_queues(&[], 1);
     stored.rings[0].count = 1;
     let others_turn = two_queues(&[(0, 7), (0, 8), (1, 6)], 0);
-    for (before, chosen) in [(stored, 0), (others_turn, 1)] {
+    for (before, chosen, youngest) in [(stored, 0, Cell::Owed(0)), (others_turn, 1, Cell::Held(1, 6))] {
         assert_eq!(Buffer::from_raw(&before).choice(Some((0, 9))), Some(chosen));
         let mut state = before.clone();
-        assert_eq!(turn(&mut state, Some((0, 9))), ArbiterAnswer::refused(5));
-        assert_eq!(state, before);
+        assert_eq!(turn(&mut state, Some((0, 9))), drops_and_asks(Some(chosen)));
+        let tail = before.tail.iter().copied().filter(|&entry| entry != (1, 6)).collect();
+        let cells = vec![Cell::Empty, Cell::Empty, youngest];
+        assert_eq!(state, RawState { phase: 1, tail, cells, last_asked: chosen, ..before });
     }
+}
+
+/// A stop hides the 5, and the last one asked stays.
+#[test]
+fn a_full_queue_whose_slot_is_stopped() {
+    let mut before = two_queues(&[(1, 6)], 0);
+    before.rings[0].count = 1;
+    before.cells[0] = Cell::Owed(0);
+    let mut state = before.clone();
+    assert_eq!(turn(&mut state, Some((0, 9))), ArbiterAnswer::stopped(8));
+    assert_eq!(state, before);
 }
 
 #[test]
@@ -145,7 +164,7 @@ fn an_arrival_of_an_unknown_queue_answers_4() {
     for before in [two_queues(&[], 1), two_queues(&[(0, 7)], 1), full_and_owed()] {
         for queue in [2, 255] {
             let mut state = before.clone();
-            assert_eq!(turn(&mut state, Some((queue, 9))), ArbiterAnswer::refused(4));
+            assert_eq!(turn(&mut state, Some((queue, 9))), ArbiterAnswer::stopped(4));
             assert_eq!(state, before);
         }
     }
@@ -158,10 +177,10 @@ fn a_last_one_asked_outside_breaks_the_rules() {
         assert_eq!(before.broken_rules(Design::Full.cells(before.sizes)), ["last asked"]);
         let mut state = before.clone();
         // 3 comes before 2 and 4.
-        assert_eq!(arbiter_slot(&mut state, Some((2, 9)), &mut []), ArbiterAnswer::refused(3));
-        assert_eq!(turn(&mut state, None), ArbiterAnswer::refused(3));
-        assert_eq!(slot(&mut state, None, Some(0), &mut [0; 4]), Answer::refused(3));
-        assert_eq!(Buffer::from_raw(&before).arbiter_slot(3, None, &mut [0; 4]), ArbiterAnswer::refused(3));
+        assert_eq!(arbiter_slot(&mut state, Some((2, 9)), &mut []), ArbiterAnswer::stopped(3));
+        assert_eq!(turn(&mut state, None), ArbiterAnswer::stopped(3));
+        assert_eq!(slot(&mut state, None, Some(0), &mut [0; 4]), Answer::stopped(3));
+        assert_eq!(Buffer::from_raw(&before).arbiter_slot(3, None, &mut [0; 4]), ArbiterAnswer::stopped(3));
         assert_eq!(state, before);
     }
 }
@@ -170,7 +189,7 @@ fn a_last_one_asked_outside_breaks_the_rules() {
 fn a_short_store_answers_2() {
     let before = two_queues(&[(0, 7)], 1);
     let mut state = before.clone();
-    assert_eq!(arbiter_slot(&mut state, Some((2, 9)), &mut [0; 3]), ArbiterAnswer::refused(2));
+    assert_eq!(arbiter_slot(&mut state, Some((2, 9)), &mut [0; 3]), ArbiterAnswer::stopped(2));
     assert_eq!(state, before);
 }
 
@@ -183,8 +202,8 @@ fn every_broken_rule_answers_3() {
         let mut state = before.clone();
         let mut store = vec![0; before.sizes.store_size().min(300)];
         let arrival = Some((random.below(3), random.byte()));
-        assert_eq!(arbiter_slot(&mut state, arrival, &mut store), ArbiterAnswer::refused(3), "{which:?}");
-        assert_eq!(slot(&mut state, arrival, Some(0), &mut store), Answer::refused(3), "{which:?}");
+        assert_eq!(arbiter_slot(&mut state, arrival, &mut store), ArbiterAnswer::stopped(3), "{which:?}");
+        assert_eq!(slot(&mut state, arrival, Some(0), &mut store), Answer::stopped(3), "{which:?}");
         assert_eq!(state, before, "{which:?}");
     }
 }
@@ -230,7 +249,9 @@ struct Seen {
 }
 
 impl Seen {
-    fn add(&mut self, before: &RawState, arrival: Option<(usize, u8)>, chosen: Option<usize>, number: u8) {
+    fn add(&mut self, before: &RawState, arrival: Option<(usize, u8)>, chosen: Option<usize>, answer: &Answer) {
+        let number = answer.number;
+        let full = answer.arrival_number == 5;
         let asked = chosen.filter(|_| number == 0);
         let arriving = arrival.map(|(queue, _)| queue);
         self.asked_nothing += usize::from(number == 0 && chosen.is_none());
@@ -238,9 +259,9 @@ impl Seen {
         self.asked_again += usize::from(asked == Some(before.last_asked));
         self.asked_since_it_arrives += usize::from(asked.is_some() && asked != next_waiting(before, None));
         self.swapped += usize::from(number == 0 && is_swap(before, arrival, chosen));
-        self.full_and_nothing_waits += usize::from(number == 5 && chosen.is_none());
-        self.full_and_chosen += usize::from(number == 5 && chosen == arriving);
-        self.full_and_another_chosen += usize::from(number == 5 && chosen.is_some() && chosen != arriving);
+        self.full_and_nothing_waits += usize::from(full && chosen.is_none());
+        self.full_and_chosen += usize::from(full && chosen == arriving);
+        self.full_and_another_chosen += usize::from(full && chosen.is_some() && chosen != arriving);
         self.stopped += usize::from(number >= 8);
     }
 
@@ -258,7 +279,8 @@ fn from_any_state_the_next_waiting_queue_is_asked_for() {
     let mut seen = Seen::default();
     for _ in 0..20_000 {
         let sizes = sizes(random.between(1, 6), random.between(1, 4), random.between(1, 3));
-        let goal = random.pick(&[0, 0, 4, 5, 8, 9, 10]);
+        let stop = random.pick(&[0, 0, 4, 8, 9, 10]);
+        let goal = if random.percent(15) { [0, 5, 0] } else { [stop, 0, 0] };
         let before = leaning_state(&mut random, sizes, Design::Full.cells(sizes), goal);
         let store = random.bytes(sizes.store_size());
         let arrival = leaning_queue(&mut random, &before, goal).map(|queue| (queue, random.byte()));
@@ -269,13 +291,13 @@ fn from_any_state_the_next_waiting_queue_is_asked_for() {
         let answer = slot(&mut expected.0, arrival, chosen, &mut expected.1);
         let asked = chosen.filter(|_| answer.number == 0);
         expected.0.last_asked = asked.unwrap_or(before.last_asked);
-        assert!(![6, 7].contains(&answer.number), "{before:?} {arrival:?}");
+        assert!(answer.number != 6 && answer.request_number == 0, "{before:?} {arrival:?}");
 
         let mut after = (before.clone(), store);
         let answered = arbiter_slot(&mut after.0, arrival, &mut after.1);
         assert_eq!(answered, ArbiterAnswer { answer, asked }, "{before:?} {arrival:?}");
         assert_eq!(after, expected, "{before:?} {arrival:?}");
-        seen.add(&before, arrival, chosen, answer.number);
+        seen.add(&before, arrival, chosen, &answer);
     }
     assert!(seen.least() >= 300, "{seen:?}");
 }
@@ -302,11 +324,13 @@ struct History {
     fronts: Vec<Front>,
     slots: usize,
     swaps: usize,
+    /// Arrivals that were dropped in the arbiter's slots.
+    dropped: usize,
 }
 
 impl History {
     fn new(sizes: Sizes) -> History {
-        History { sizes, rows: vec![Row::default(); sizes.q], fronts: Vec::new(), slots: 0, swaps: 0 }
+        History { sizes, rows: vec![Row::default(); sizes.q], fronts: Vec::new(), slots: 0, swaps: 0, dropped: 0 }
     }
 
     fn add(&mut self, slot: &Accepted) {
@@ -325,11 +349,12 @@ impl History {
         if let Some(queue) = slot.request {
             self.rows[queue].asked_in.push(self.slots);
         }
-        if let Some((queue, byte)) = slot.delivered {
+        if let Some((queue, byte)) = slot.answer.delivered {
             self.rows[queue].left_in.push((self.slots, byte));
         }
         self.slots += 1;
         self.swaps += usize::from(by_arbiter && is_swap(slot.before, slot.arrival, slot.request));
+        self.dropped += usize::from(by_arbiter && slot.answer.arrival_number == 5);
     }
 
     /// "A queue that has an unrequested byte is asked within Q accepted slots, that slot included. So its front byte
@@ -371,12 +396,12 @@ fn mixed_call<'a>(traffic: &'a Traffic, turns: &'a Turns) -> impl FnMut(&mut Ran
 fn every_queue_is_asked_within_as_many_slots_as_there_are_queues() {
     let mut random = Random::new(22);
     let mut swaps = 0;
+    let mut dropped = 0;
     for queues in [1, 2, 3, 4, 5, 6, 8] {
         let mut greatest = 0;
         for _ in 0..60 {
             let sizes = sizes(queues, random.between(1, 4), random.between(1, 3));
-            let full_queues = random.percent(50);
-            let traffic = if full_queues { Traffic::of_full_queues } else { Traffic::random }(&mut random);
+            let traffic = any_traffic(&mut random);
             let callers_first = random.pick(&[0, 10, sizes.store_size()]);
             let turns = Turns { callers_first, arbiters: 100, ..Turns::random(&mut random, sizes) };
             let mut history = History::new(sizes);
@@ -384,10 +409,11 @@ fn every_queue_is_asked_within_as_many_slots_as_there_are_queues() {
             assert!(history.fronts.len() >= 100, "{sizes:?}");
             greatest = greatest.max(history.greatest_wait());
             swaps += history.swaps;
+            dropped += history.dropped;
         }
         assert_eq!(greatest, queues - 1);
     }
-    assert!(swaps >= 100, "{swaps} swaps");
+    assert!(swaps >= 100 && dropped >= 500, "{swaps} swaps, {dropped} dropped arrivals");
 }
 
 /// A caller's slots between the arbiter's keep the delay, and the last one asked.

@@ -1,7 +1,7 @@
 //! Request 2.8: each high mark is exactly the greatest fill since the fresh state. The tail is looked at just
 //! after the arrival joins it, the head just after the read.
 
-use super::{fresh, is_swap, looked_at, sizes, slot};
+use super::{any_traffic, fresh, is_swap, looked_at, sizes, slot};
 use crate::buffer::Answer;
 use crate::lists::Traffic;
 use crate::random::Random;
@@ -108,10 +108,9 @@ fn without_a_read_the_head_mark_stays() {
 
 /// Each slot has an arrival that would raise the tail mark.
 #[test]
-fn a_refused_slot_leaves_both_marks() {
+fn a_stopped_slot_leaves_both_marks() {
     let (good, store) = read_due(3);
     let wrong_phase = RawState { phase: 2, ..good.clone() };
-    let all_owed = RawState { cells: vec![Cell::Owed(0); 3], ..good.clone() };
     let no_head_byte = RawState { head: vec![(1, 2), (1, 3)], ..good.clone() };
     let full_tail = RawState { tail: vec![(1, 8); 4], tail_mark: 4, ..fresh(2, 2, 3) };
     let full_head = RawState {
@@ -120,23 +119,42 @@ fn a_refused_slot_leaves_both_marks() {
         cells: vec![Cell::Empty, Cell::Empty, Cell::Owed(0)],
         ..good.clone()
     };
-    let refused = [
+    let stopped = [
         (3, &wrong_phase, (1, 9), None, store.len()),
         (2, &good, (1, 9), None, store.len() - 1),
         (4, &good, (2, 9), None, store.len()),
-        (5, &good, (0, 9), None, store.len()),
         (6, &good, (1, 9), Some(2), store.len()),
-        (7, &all_owed, (1, 9), Some(0), store.len()),
         (8, &no_head_byte, (1, 9), None, store.len()),
         (9, &full_tail, (1, 9), None, full_tail.sizes.store_size()),
         (10, &full_head, (1, 9), None, store.len()),
     ];
-    for (number, before, arrival, request, store_length) in refused {
+    for (number, before, arrival, request, store_length) in stopped {
         let mut state = before.clone();
         let answer = slot(&mut state, Some(arrival), request, &mut vec![0; store_length]);
-        assert_eq!(answer, Answer::refused(number));
+        assert_eq!(answer, Answer::stopped(number));
         assert_eq!(marks(&state), marks(before), "refusal {number}");
     }
+}
+
+/// The stored block fills queue 0, so its byte does not join the tail, which is at its mark. The slot goes on, and its
+/// read raises the head mark.
+#[test]
+fn a_dropped_arrival_leaves_the_tail_mark() {
+    let (mut state, mut store) = read_due(3);
+    state.tail = vec![(1, 8)];
+    state.tail_mark = 1;
+    let answer = slot(&mut state, Some((0, 9)), None, &mut store);
+    assert_eq!((answer.numbers(), answer.read), ([0, 5, 0], Some(0)));
+    assert_eq!(state.tail, [(1, 8)]);
+    assert_eq!(marks(&state), (1, 4));
+}
+
+/// The byte that arrives counts, though the request beside it is dropped.
+#[test]
+fn a_dropped_request_leaves_the_arrival_its_mark() {
+    let mut state = fresh(2, 2, 1);
+    assert_eq!(slot(&mut state, Some((0, 9)), Some(1), &mut [0; 4]).numbers(), [0, 0, 7]);
+    assert_eq!(marks(&state), (1, 0));
 }
 
 fn greater(old: (usize, usize), fills: (usize, usize)) -> (usize, usize) {
@@ -154,7 +172,9 @@ struct Seen {
     head_below_mark: usize,
     /// A swap with the tail at its mark, which would rise if the tail were looked at before the request.
     swapped_at_mark: usize,
-    refused: usize,
+    /// A dropped arrival with the tail at its mark, which would rise if the byte joined.
+    dropped_at_mark: usize,
+    stopped: usize,
 }
 
 impl Seen {
@@ -168,12 +188,15 @@ impl Seen {
         self.tail_below_mark += usize::from(!tail_rose && after.tail.len() < after.tail_mark);
         self.head_below_mark += usize::from(!head_rose && after.head.len() < after.head_mark);
         self.swapped_at_mark += usize::from(accepted && swaps && before.tail.len() == before.tail_mark);
-        self.refused += usize::from(!accepted);
+        let dropped = answer.arrival_number == 5;
+        self.dropped_at_mark += usize::from(dropped && before.tail.len() == before.tail_mark);
+        self.stopped += usize::from(!accepted);
     }
 
     fn least(&self) -> usize {
         let tail = self.tail_raised_and_left.min(self.tail_below_mark).min(self.swapped_at_mark);
-        tail.min(self.head_raised_and_left).min(self.head_below_mark).min(self.refused)
+        let head = self.head_raised_and_left.min(self.head_below_mark);
+        tail.min(head).min(self.dropped_at_mark).min(self.stopped)
     }
 }
 
@@ -181,12 +204,11 @@ impl Seen {
 fn from_a_fresh_state_the_marks_are_the_greatest_fills() {
     let mut random = Random::new(28);
     let mut seen = Seen::default();
-    for _ in 0..400 {
+    for _ in 0..800 {
         let sizes = sizes(random.between(1, 5), random.between(1, 5), random.between(1, 3));
         let mut state = fresh(sizes.q, sizes.b, sizes.k);
         let mut store = random.bytes(sizes.store_size());
-        let full_queues = random.percent(50);
-        let traffic = if full_queues { Traffic::of_full_queues } else { Traffic::random }(&mut random);
+        let traffic = any_traffic(&mut random);
         let mut greatest = (0, 0);
         for index in 0..400 {
             let before = state.clone();

@@ -1,7 +1,7 @@
 //! Request 2.1: a slot that reads and refills one full queue is taken where its request would be Held and the tail
 //! already has a byte of the queue; then the request comes before the arrival.
 
-use super::{callers_call, check_list, fresh, is_swap, printed, sizes, slot};
+use super::{callers_call, check_list, fresh, is_swap, moves_nothing, printed, sizes, slot};
 use crate::buffer::{Answer, Buffer, Refill};
 use crate::full_queue::state_with_full_queue;
 use crate::lists::Traffic;
@@ -24,12 +24,13 @@ fn a_script_that_swaps() {
     assert_eq!(run_script(&SWAPS, &mut Vec::new()).ok(), Some(1));
 }
 
-/// Without the idle slot before them the two bytes are a block in store as the third one comes.
+/// Without the idle slot before them the two bytes are a block in store as the third one comes. It is dropped, and the
+/// request is taken.
 #[test]
 fn a_script_whose_request_would_be_owed() {
     let mut script = SWAPS.to_vec();
     script.remove(4);
-    assert_eq!(printed(&script), "R 2 5\nE 6\n");
+    assert_eq!(printed(&script), "R 2 5\nD 4 0 65\nE 7\n");
 }
 
 /// Q 1, b 2, K 1, phase 0, both bytes of the queue in the tail.
@@ -49,7 +50,7 @@ fn refill(state: &mut RawState) -> Answer {
 #[test]
 fn the_request_takes_an_old_byte_and_the_arrival_joins() {
     let mut state = full(2);
-    assert_eq!(refill(&mut state), Answer { number: 0, delivered: None, written: None, read: None });
+    assert_eq!(refill(&mut state), moves_nothing([0; 3]));
     let cells = vec![Cell::Empty, Cell::Held(0, 7)];
     assert_eq!(state, RawState { phase: 1, tail: vec![(0, 8), (0, 9)], cells, ..full(2) });
 }
@@ -69,7 +70,7 @@ fn the_arriving_byte_is_written() {
 fn a_full_tail_takes_the_arrival_of_a_swap() {
     let mut state = RawState { tail: vec![(0, 7)], tail_mark: 1, ..fresh(1, 1, 1) };
     let mut store = [0];
-    let written = Answer { number: 0, delivered: None, written: Some(0), read: None };
+    let written = Answer { written: Some(0), ..moves_nothing([0; 3]) };
     assert_eq!(slot(&mut state, Some((0, 9)), Some(0), &mut store), written);
     assert_eq!(store, [9]);
     assert_eq!((state.tail.len(), &state.cells[..], state.tail_mark), (0, &[Cell::Held(0, 7)][..], 1));
@@ -82,7 +83,7 @@ fn a_swap_that_misses() {
     state.cells[0] = Cell::Owed(1);
     state.rings[1].count = 1;
     let before = state.clone();
-    assert_eq!(refill(&mut state), Answer::refused(8));
+    assert_eq!(refill(&mut state), Answer::stopped(8));
     assert_eq!(state, before);
     state.head = vec![(1, 5)];
     state.head_mark = 1;
@@ -98,7 +99,7 @@ fn a_swap_whose_read_finds_no_room() {
     state.cells[1] = Cell::Owed(2);
     state.rings[2].count = 1;
     let before = state.clone();
-    assert_eq!(refill(&mut state), Answer::refused(10));
+    assert_eq!(refill(&mut state), Answer::stopped(10));
     assert_eq!(state, before);
     state.head.pop();
     assert_eq!(refill(&mut state).read, Some(2));
@@ -133,13 +134,15 @@ fn a_queue_with_room_does_not_swap() {
     assert_eq!((deeper.tail, deeper.tail_mark), (vec![(0, 8), (0, 9)], 3));
 }
 
+/// The arrival is dropped, and the slot leaves what the request alone leaves.
 #[test]
 fn a_request_of_another_queue_or_none_does_not_swap() {
     let state = RawState { tail: vec![(0, 7), (0, 8), (1, 6)], tail_mark: 3, ..fresh(2, 2, 1) };
-    for request in [None, Some(1), Some(2)] {
-        let mut after = state.clone();
-        assert_eq!(slot(&mut after, Some((0, 9)), request, &mut [0; 4]), Answer::refused(5));
-        assert_eq!(after, state);
+    for request in [None, Some(1)] {
+        let (mut after, mut without) = (state.clone(), state.clone());
+        assert_eq!(slot(&mut after, Some((0, 9)), request, &mut [0; 4]), moves_nothing([0, 5, 0]));
+        assert_eq!(slot(&mut without, None, request, &mut [0; 4]), moves_nothing([0; 3]));
+        assert_eq!(after, without);
     }
     // And a full queue of which no byte arrives is of no matter.
     assert_eq!(slot(&mut state.clone(), Some((1, 9)), Some(0), &mut [0; 4]).number, 0);
@@ -154,8 +157,8 @@ fn a_request_that_would_be_owed_does_not_swap() {
     let in_store = RawState { sizes: sizes(1, 2, 2), rings: one_block, ..one_owed };
     for state in [in_head, in_store] {
         let mut after = state.clone();
-        assert_eq!(refill(&mut after), Answer::refused(5));
-        assert_eq!(after, state);
+        assert_eq!(refill(&mut after), moves_nothing([0, 5, 0]));
+        assert_eq!(after, RawState { phase: 1, cells: vec![Cell::Owed(0); 2], ..state });
     }
 }
 
@@ -174,7 +177,8 @@ fn a_queue_that_is_owed_all_but_its_tail_bytes_swaps() {
     assert_eq!(in_store.cells, [Cell::Owed(0), Cell::Owed(0), Cell::Held(0, 7)]);
 }
 
-/// Both bytes of the queue are in the store, and owed: the request would be Held, and take the byte that arrives.
+/// Both bytes of the queue are in the store, and owed: the request would be Held, and take the byte that arrives. That
+/// byte is dropped, and so is the request.
 #[test]
 fn a_tail_without_a_byte_of_the_queue_does_not_swap() {
     let mut state = fresh(2, 2, 1);
@@ -184,8 +188,8 @@ fn a_tail_without_a_byte_of_the_queue_does_not_swap() {
     for tail in [vec![], vec![(1, 7)]] {
         let before = RawState { tail_mark: tail.len(), tail, ..state.clone() };
         let mut after = before.clone();
-        assert_eq!(refill(&mut after), Answer::refused(5));
-        assert_eq!(after, before);
+        assert_eq!(refill(&mut after), moves_nothing([0, 5, 7]));
+        assert_eq!(after, RawState { phase: 1, cells: vec![Cell::Owed(0), Cell::Owed(0), Cell::Empty], ..before });
     }
 }
 
@@ -228,8 +232,8 @@ fn from_any_state_the_request_comes_first() {
     let mut seen = Seen::default();
     for _ in 0..20_000 {
         let sizes = sizes(random.between(1, 5), random.between(1, 5), random.between(1, 3));
-        let goal = random.pick(&[0, 8, 10]);
-        let lean = Lean::towards(&mut random, goal);
+        let stop = random.pick(&[0, 8, 10]);
+        let lean = Lean::towards(&mut random, [stop, 0, 0]);
         let (before, queue) = state_with_full_queue(&mut random, sizes, Design::Full.cells(sizes), lean);
         let store = random.bytes(sizes.store_size());
         let (arrival, request) = (Some((queue, random.byte())), Some(queue));
@@ -240,7 +244,7 @@ fn from_any_state_the_request_comes_first() {
         assert_eq!(met == Some(Refill::Swap), is_swap(&before, arrival, request), "{before:?} {queue}");
         let expected = match met {
             Some(Refill::Swap) => swapped(&before, &store, (queue, arrival)),
-            _ => (Answer::refused(5), (before.clone(), store)),
+            _ => request_alone(&before, &store, queue),
         };
         assert_ne!(answer.number, 9);
         assert_eq!((answer, after), expected, "{before:?} {queue}");
@@ -266,6 +270,15 @@ fn swapped(
     }
     *state.cells.last_mut().expect("at least one cell") = Cell::Held(queue, taken);
     (answer, (state, store))
+}
+
+/// What a slot that does not swap comes to: the request's slot, and 5 beside it unless something stops it.
+fn request_alone(before: &RawState, store: &[u8], queue: usize) -> (Answer, (RawState, Vec<u8>)) {
+    let mut state = before.clone();
+    let mut store = store.to_vec();
+    let answer = slot(&mut state, None, Some(queue), &mut store);
+    let arrival_number = if answer.number == 0 { 5 } else { 0 };
+    (Answer { arrival_number, ..answer }, (state, store))
 }
 
 /// "The delay and cache sizes hold for runs with these slots in them." No swap of these finds the tail full, since from

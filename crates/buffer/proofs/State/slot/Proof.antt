@@ -63,9 +63,12 @@ written c = c .before .before .before .before .before .before .before
 arrays-long : (s : tie.Start) → Long (arraysOf (state s))
 arrays-long s = search needs
 
--- What is decided of a slot that goes on.
+-- What is left of the call of a slot that goes on, and what is decided of it.
+abbrev taken : tie.Else1 → Call
+taken c = callIn (planned c .plan .result .arrival) (planned c .plan .result .request)
+
 decision : (c : tie.Else1) → Decided (stateOf (state (start (planned c)))) (store (start (planned c)))
-    (call (start (planned c))) (planned c .plan .result .owes) (planned c .plan .result .swaps)
+    (taken c) (planned c .plan .result .owes) (planned c .plan .result .swaps)
     (chosenIn (planned c .plan .result .written)) (chosenIn (planned c .plan .result .read))
 decision c = planned c .plan .ensures .decided (c .if1 .left) (store (start (planned c))) refl
 
@@ -271,7 +274,9 @@ returns-2 c =
     let s5 = full .arrive2 .ensures in
     let s6 = wrote .write .ensures in
     let s7 = read .read .ensures in
-    carried-says (state s) (store s) (call s) (d .accepted)
+    let plan = planned on .plan in
+    carried-says (state s) (store s) (call s) (taken on) (plan .result .«arrival_number»)
+    (plan .result .«request_number») (plan .ensures .carries (on .if1 .left) (store s) refl)
     (reply-is _ _ refl refl refl (steps.delivered regs m long d early s1 s2) (d .written-is) (d .read-is))
     (steps.state-after regs m long d early s1 s2 s3 s4 late s5 s6 s7
     (phase .next-phase .ensures)

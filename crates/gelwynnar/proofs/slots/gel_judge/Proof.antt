@@ -1,7 +1,7 @@
 -- `gel_judge` meets its contract: what is decided of the slot of the nearest call is decided of the call.
 use Rattle.layout.specs.Views.{Arrays, arrays}
 use Rattle.run_words.specs.Words.{callOf}
-use Rattle.gelwynnar.proofs.Lent.{number-judged}
+use Rattle.gelwynnar.proofs.Lent.{judged-stopped, judged-going-on}
 use Rattle.gelwynnar.proofs.slots.gel_judge.Statement.{statement}
 use Rattle.gelwynnar.proofs.slots.gel_judge.Tie as tie
 
@@ -24,12 +24,36 @@ plan-requires c κs = c .before .before .before .pre
 
 returns : tie.Need-returns
 returns c =
-    let request = c .before in
+    let planned = c .before in
+    let request = planned .before in
     let arrival = request .before in
     let read = arrival .before in
-    number-judged (memory (read .before)) (read .regs-in .ensures) (callOf (read .before .args .call))
-    (arrival .arrival-in .result) (request .request-in .result) (c .plan .ensures) (arrival .arrival-in .ensures)
-    (request .request-in .ensures)
+    judged-stopped (memory (read .before)) (read .regs-in .ensures) (callOf (read .before .args .call))
+    (arrival .arrival-in .result) (request .request-in .result) (planned .plan .ensures) (arrival .arrival-in .ensures)
+    (request .request-in .ensures) (c .if1 .taken)
+
+dropped-field-requires : tie.Need-dropped-field-requires
+dropped-field-requires c κs = tt
+
+returns-2 : tie.Need-returns-2
+returns-2 c =
+    let goes-on = c .before in
+    let planned = goes-on .before in
+    let request = planned .before in
+    let arrival = request .before in
+    let read = arrival .before in
+    judged-going-on (memory (read .before)) (read .regs-in .ensures) (callOf (read .before .args .call))
+    (arrival .arrival-in .result) (request .request-in .result) (planned .plan .ensures) (arrival .arrival-in .ensures)
+    (request .request-in .ensures) (goes-on .if1 .left) (c .dropped-field .ensures)
 
 pub gel-judge-spec : {M : Type 1} → statement M
-gel-judge-spec = tie.close (tie.spec regs-in-requires arrival-in-requires request-in-requires plan-requires returns)
+gel-judge-spec =
+    tie.close
+    (tie.spec
+    regs-in-requires
+    arrival-in-requires
+    request-in-requires
+    plan-requires
+    returns
+    dropped-field-requires
+    returns-2)

@@ -4,6 +4,9 @@ use Rattle.gelwynnar.proofs.Lent.{told-fields}
 use Rattle.gelwynnar.proofs.slots.tell.Statement.{statement}
 use Rattle.gelwynnar.proofs.slots.tell.Tie as tie
 
+dropped-field-requires : tie.Need-dropped-field-requires
+dropped-field-requires c κs = tt
+
 delivery-fields-requires : tie.Need-delivery-fields-requires
 delivery-fields-requires c κs = tt
 
@@ -17,8 +20,16 @@ returns : tie.Need-returns
 returns c =
     let wrote = c .before in
     let gave = wrote .before in
-    told-fields (replyIn (gave .before .args .reply))
+    let dropped = gave .before in
+    told-fields (replyIn (dropped .before .args .reply)) (dropped .dropped-field .ensures)
     (gave .delivery-fields .ensures) (wrote .chosen-fields .ensures) (c .chosen-fields2 .ensures)
 
 pub tell-spec : {M : Type 1} → statement M
-tell-spec = tie.close (tie.spec delivery-fields-requires chosen-fields-requires chosen-fields-requires-2 returns)
+tell-spec =
+    tie.close
+    (tie.spec
+    dropped-field-requires
+    delivery-fields-requires
+    chosen-fields-requires
+    chosen-fields-requires-2
+    returns)

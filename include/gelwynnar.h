@@ -52,8 +52,10 @@ extern "C" {
  *    3: a ninth register, the queue that the round robin arbiter asked last; and gel_arbiter_slot and gel_arbiter_step,
  *       in which it chooses the request;
  *    4: 5 and 7 no longer refuse a slot: it runs without that half, answers 0, and `dropped` tells what it dropped;
- *       gel_judge answers a gel_judgement, which tells it too. A script prints a line for each. */
-#define GEL_VERSION 4
+ *       gel_judge answers a gel_judgement, which tells it too. A script prints a line for each;
+ *    5: `slots_left` of an answer and of its word is no longer 0 at a read, a script prints a line M for each, and
+ *       gel_script_run asks for more output. */
+#define GEL_VERSION 5
 
 uint32_t gel_version(void);
 
@@ -108,7 +110,8 @@ static inline uint64_t gel_both(uint16_t queue, uint8_t value, uint16_t asked) {
 }
 
 /* What a slot answers. Where `number` is not 0, the slot did not happen and all other fields are 0. A half that is
- * dropped never came: the slot is that of the call without it, and is accepted. `slots_left` is 0 in this version. */
+ * dropped never came: the slot is that of the call without it, and is accepted. Where a slot reads a block, the nth
+ * accepted slot after it delivers a byte of that queue, n being `slots_left`. */
 typedef struct gel_answer {
     uint8_t number;      /* 0, or what stopped the slot; never 5 or 7 */
     uint8_t dropped;     /* bit 0: the arrival was dropped (5), bit 1: the request was (7) */
@@ -119,7 +122,7 @@ typedef struct gel_answer {
     uint16_t queue;
     uint16_t written;
     uint16_t read;
-    uint32_t slots_left; /* at a read: in how many slots the cell leaves that asked for it */
+    uint32_t slots_left; /* at a read: in how many slots the cell leaves that the block was for, 1 to L; else 0 */
 } gel_answer;
 
 /* The same as one word, for runs of many slots. Bits 0-7 the value delivered, 8-17 its queue, 18 whether there is one;
@@ -322,14 +325,14 @@ gel_reading gel_script_read(const uint8_t *rest, size_t rest_bytes, uint8_t firs
  * refusal the output is as it came. */
 gel_writing gel_script_write(gel_command command, uint8_t *output, size_t output_bytes);
 
-/* How many bytes of output gel_script_run asks for a script of so many bytes: 655,371 are enough for any. */
+/* How many bytes of output gel_script_run asks for a script of so many bytes: 720,907 are enough for any. */
 size_t gel_script_output(size_t script_bytes);
 
 /* A script run on a store: how many bytes of lines it printed, 1 or more; or 0, with nothing touched, where the output
  * is shorter than gel_script_output of the script's bytes. The lines are `D t q v` for a byte v of queue q that leaves
- * in slot t, `R t n` for a number n, last `E t` with the slots accepted; or `S n offset` alone for a script with a
- * fault. A slot prints its D first, then R with 5, then R with 7, each with its own t; one that is stopped prints one
- * R, with the t of the slot that would have run. */
+ * in slot t, `R t n` for a number n, `M t q n` for a block of queue q that is read with n slots left, last `E t` with
+ * the slots accepted; or `S n offset` alone for a script with a fault. A slot prints its D first, then R with 5, then R
+ * with 7, then M, each with its own t; one that is stopped prints one R, with the t of the slot that would have run. */
 size_t gel_script_run(const uint8_t *script, size_t script_bytes, uint8_t *store, size_t store_bytes, uint8_t *output,
                       size_t output_bytes);
 

@@ -124,7 +124,7 @@ impl<const ARBITER: bool> Model for Buffer<ARBITER> {
             None => Cell::Empty,
             Some(queue) if request_is_owed => {
                 self.queues[queue as usize].unasked -= 1;
-                Cell::Owed(queue, self.head.ask(queue))
+                Cell::Owed(queue, self.head.ask(queue, self.oldest))
             }
             Some(queue) => {
                 self.queues[queue as usize].room += 1;
@@ -210,9 +210,10 @@ impl<const ARBITER: bool> Buffer<ARBITER> {
         Some(number)
     }
 
-    /// The oldest order is served: the first block of its queue's ring goes to the head.
+    /// The oldest order is served: the first block of its queue's ring goes to the head. The queue, and in how many
+    /// slots the cell leaves that gave the order (request 2.6).
     #[inline(always)]
-    fn read(&mut self, store: &[u8]) -> Option<u16> {
+    fn read(&mut self, store: &[u8]) -> Option<(u16, usize)> {
         let Sizes { block, depth, .. } = self.sizes;
         let order = self.head.next_order()?;
         let queue = &mut self.queues[order.queue as usize];
@@ -220,7 +221,9 @@ impl<const ARBITER: bool> Buffer<ARBITER> {
         self.head.join_block(order, &store[at..at + block]);
         queue.room += block as u16;
         queue.read_next = next_block(queue.read_next, depth);
-        Some(order.queue)
+        let cell = order.cell as usize;
+        let round = if cell < self.oldest { self.cells.len() } else { 0 };
+        Some((order.queue, round + cell - self.oldest + 1))
     }
 }
 

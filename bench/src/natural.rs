@@ -155,7 +155,7 @@ impl Model for Buffer {
             if let Some(queue) = written {
                 self.write(queue, store);
             }
-            if let Some(queue) = read {
+            if let Some((queue, _)) = read {
                 self.read(queue, store);
             }
             self.phase = 0;
@@ -237,18 +237,18 @@ impl Buffer {
         }
     }
 
-    /// The queue of the first Owed cell that its queue's head bytes do not cover. `joining` is the queue of
-    /// an Owed cell about to join. The cell about to leave is scanned with the rest: it is covered, and uses
-    /// up the head byte that it delivers.
+    /// The queue of the first Owed cell that its queue's head bytes do not cover, and in how many slots that cell
+    /// leaves (request 2.6). `joining` is the queue of an Owed cell about to join. The cell about to leave is scanned
+    /// with the rest, as place 0: it is covered, and uses up the head byte that it delivers.
     #[inline(always)]
-    fn uncovered(&self, joining: Option<u16>) -> Option<u16> {
+    fn uncovered(&self, joining: Option<u16>) -> Option<(u16, usize)> {
         let mut left = [0; MOST_QUEUES];
         for (left, queue) in left.iter_mut().zip(&self.queues) {
             *left = queue.head.len();
         }
         let joining = joining.map(Cell::Owed);
-        self.cells.iter().chain(&joining).find_map(|cell| match *cell {
-            Cell::Owed(queue) if left[queue as usize] == 0 => Some(queue),
+        self.cells.iter().chain(&joining).enumerate().find_map(|(place, cell)| match *cell {
+            Cell::Owed(queue) if left[queue as usize] == 0 => Some((queue, place)),
             Cell::Owed(queue) => {
                 left[queue as usize] -= 1;
                 None

@@ -35,8 +35,7 @@ pub fn is_arbiters(call: u64) -> bool {
     call & ARBITERS != 0
 }
 
-// An answer is the parts of it that there are: 0 where nothing left, nothing moved and nothing was dropped. Bits 41 to
-// 53, slots left, are 0.
+// An answer is the parts of it that there are: 0 where nothing left, nothing moved and nothing was dropped.
 
 /// Bits 0 to 7 the delivered value, 8 to 17 its queue, 18 that there is one.
 pub fn delivered((queue, value): (u16, u8)) -> u64 {
@@ -48,9 +47,10 @@ pub fn written(queue: u16) -> u64 {
     1 << 29 | (queue as u64) << 19
 }
 
-/// Bits 30 to 39 the queue read, 40 that one was.
-pub fn read(queue: u16) -> u64 {
-    1 << 40 | (queue as u64) << 30
+/// Bits 30 to 39 the queue read, 40 that one was, 41 to 53 in how many slots the cell leaves that lacked its byte
+/// (request 2.6).
+pub fn read((queue, slots_left): (u16, usize)) -> u64 {
+    (slots_left as u64) << 41 | 1 << 40 | (queue as u64) << 30
 }
 
 /// Bits 54 and 55: 5 dropped the arrival, 7 dropped the request, and the slot ran without (request 2.5).

@@ -157,6 +157,8 @@ fn written(answer: u64) -> Option<u16> {
     (answer >> 29 & 1 == 1).then_some((answer >> 19 & 1023) as u16)
 }
 
-fn read(answer: u64) -> Option<u16> {
-    (answer >> 40 & 1 == 1).then_some((answer >> 30 & 1023) as u16)
+/// The queue read, and in how many slots the cell leaves that lacked its byte (request 2.6).
+fn read(answer: u64) -> Option<(u16, usize)> {
+    let slots_left = (answer >> 41 & 8191) as usize;
+    (answer >> 40 & 1 == 1).then_some(((answer >> 30 & 1023) as u16, slots_left))
 }

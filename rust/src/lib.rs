@@ -9,7 +9,7 @@ pub mod script;
 pub mod sizes;
 
 /// The interface that the header describes; `version` tells the one that is linked.
-pub const VERSION: u32 = 4;
+pub const VERSION: u32 = 5;
 
 /// How long the arrays of a buffer are.
 pub const REGS: usize = 9;
@@ -68,6 +68,7 @@ pub struct Answer {
     pub queue: u16,
     pub written: u16,
     pub read: u16,
+    /// At a read, in how many slots the cell leaves that asked for it: 1 to L; 0 where nothing is read.
     pub slots_left: u32,
 }
 

@@ -42,5 +42,6 @@ for t, arrives in enumerate([(0, "c"), (1, "d"), None, (2, "x"), (0, "e"), None]
     a = slot(*arrays, word, store, c_size_t(len(store)))
     asked = f"asks queue {a.asked}" if a.asks else "asks none"
     leaves = f", delivers byte {a.slot.value} of queue {a.slot.queue}" if a.slot.delivers else ""
+    reads = f", reads queue {a.slot.read} with {a.slot.slots_left} slots left" if a.slot.reads else ""
     numbers = f"answers {a.slot.number}, drops {a.slot.dropped}"
-    print(f"slot {t} {numbers}, {asked}, the last one asked is {regs[8]}{leaves}")
+    print(f"slot {t} {numbers}, {asked}, the last one asked is {regs[8]}{leaves}{reads}")

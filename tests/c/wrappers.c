@@ -29,7 +29,7 @@ static uint64_t calls[SLOTS], words[SLOTS], other_words[SLOTS];
 /* What each slot answers: number, dropped, delivers, writes, reads, value, queue, written, read, slots left. */
 static const gel_answer table[SLOTS] = {
     {0, 0, 0, 0, 0, 0, 0, 0, 0, 0},   {0, 0, 0, 1, 0, 0, 0, 0, 0, 0},  {0, 0, 0, 0, 0, 0, 0, 0, 0, 0},
-    {0, 0, 0, 0, 1, 0, 0, 0, 0, 0},   {0, 0, 0, 0, 0, 0, 0, 0, 0, 0},  {0, 0, 1, 0, 0, 'a', 0, 0, 0, 0},
+    {0, 0, 0, 0, 1, 0, 0, 0, 0, 2},   {0, 0, 0, 0, 0, 0, 0, 0, 0, 0},  {0, 0, 1, 0, 0, 'a', 0, 0, 0, 0},
     {0, 0, 1, 0, 0, 'x', 1, 0, 0, 0}, {0, 0, 1, 0, 0, 'b', 0, 0, 0, 0}, {0, 0, 1, 0, 0, 'y', 1, 0, 0, 0},
 };
 
@@ -204,7 +204,8 @@ static int runs_without(uint64_t call, uint64_t left, uint8_t dropped) {
 
 /* 5 drops the arrival, 7 the request, and the slot runs without. */
 static void halves_dropped(void) {
-    const gel_answer delivers_and_reads = {0, 0, 1, 0, 1, 'c', 1, 0, 0, 0};
+    const gel_answer reads = {0, 0, 0, 0, 1, 0, 0, 0, 1, 2};
+    const gel_answer delivers_and_reads = {0, 0, 1, 0, 1, 'c', 1, 0, 0, 1};
     /* A fresh buffer has no byte to ask for. The phase passes, and what arrives beside is taken. */
     CHECK(gel_buffer_open(&other, 2, 2, 4) == 0);
     CHECK(runs_without(gel_ask(1), gel_nothing(), 2) && other.regs[GEL_PHASE] == 1);
@@ -230,7 +231,7 @@ static void halves_dropped(void) {
         CHECK(gel_buffer_slot(&other, gel_arrive(t / 2, (uint8_t)('a' + t)), other_store, STORE).writes == t % 2);
     }
     CHECK(same(gel_buffer_slot(&other, gel_ask(1), other_store, STORE), nothing));
-    CHECK(gel_buffer_slot(&other, gel_ask(0), other_store, STORE).reads == 1);
+    CHECK(same(gel_buffer_slot(&other, gel_ask(0), other_store, STORE), reads));
     CHECK(same(gel_buffer_slot(&other, gel_ask(0), other_store, STORE), nothing) && other.owing[0] == 2);
     CHECK(runs_without(gel_both(0, 'z', 0), gel_nothing(), 3));
     CHECK(same(gel_answer_of(words[0]), with_dropped(delivers_and_reads, 3)));
@@ -258,6 +259,27 @@ static void full_queue_refilled(void) {
     CHECK(other_store[0] == 'b' && other_store[1] == 'c' && other.regs[GEL_TAIL_MARK] == 2);
     CHECK(same(gel_buffer_step(&other, gel_nothing(), other_store, 2), nothing));
     CHECK(same(gel_buffer_step(&other, gel_nothing(), other_store, 2), delivers));
+}
+
+/* How many slots are left at a read: all L = 2 where the block is asked for in the slot that reads it, and 1 where the
+ * slot before asked, also by the count of idle slots. */
+static void slots_left(void) {
+    static gel_buffer kept;
+    const gel_answer with_all = {0, 0, 0, 0, 1, 0, 0, 0, 0, 2}, with_1 = {0, 0, 0, 0, 1, 0, 0, 0, 0, 1};
+    gel_stretch s;
+    CHECK(gel_buffer_open(&other, 1, 2, 1) == 0);
+    CHECK(same(gel_buffer_slot(&other, gel_arrive(0, 'a'), other_store, STORE), nothing));
+    CHECK(gel_buffer_slot(&other, gel_arrive(0, 'b'), other_store, STORE).writes == 1);
+    kept = other;
+    CHECK(same(gel_buffer_slot(&other, gel_nothing(), other_store, STORE), nothing));
+    CHECK(runs_without(gel_ask(0), gel_ask(0), 0) && same(gel_answer_of(words[0]), with_all));
+    other = kept;
+    CHECK(same(gel_buffer_slot(&other, gel_ask(0), other_store, STORE), nothing));
+    kept = other;
+    CHECK(runs_without(gel_nothing(), gel_nothing(), 0) && same(gel_answer_of(words[0]), with_1));
+    other = kept;
+    s = gel_buffer_idle(&other, 5, other_store, STORE);
+    CHECK(s.passed == 1 && same(s.last, with_1));
 }
 
 /* The counts by queue of `other`, which has one tail byte of queue 1 and nothing else, are right. */
@@ -357,6 +379,7 @@ static void greatest_wait(void) {
     for (uint16_t t = 0; t < 5; t++) {
         gel_arbiter_answer a = arbitrate(gel_ask(9));
         CHECK(a.slot.number == 0 && a.asks == (t < 4) && a.asked == (t < 4 ? t : 0) && a.slot.reads == a.asks);
+        CHECK(a.slot.slots_left == a.asks); /* of L = 1 */
         CHECK(a.slot.delivers == (t > 0) && (t == 0 || (a.slot.queue == t - 1 && a.slot.value == 'a' + t - 1)));
     }
     CHECK(other.regs[GEL_LAST_ASKED] == 3);
@@ -378,7 +401,7 @@ static void arbiter_is_refused(void) {
 }
 
 static void arbiter_meets_a_full_queue(void) {
-    const gel_answer reads = {0, 1, 0, 0, 1, 0, 0, 0, 0, 0};
+    const gel_answer reads = {0, 1, 0, 0, 1, 0, 0, 0, 0, 1};
     const gel_answer delivers = {0, 0, 1, 0, 0, 's', 0, 0, 0, 0};
     gel_arbiter_answer a;
     /* Queue 0 is full, with both its bytes in store and owed, and no other has a byte: its arrival is dropped and does
@@ -500,12 +523,12 @@ static void sizes(void) {
 /* The nine slots again: sizes, arrivals, both, requests, three idle slots by their count, the end. */
 static const gel_command commands[] = {{16, 2, 2, 4},   {1, 0, 'a', 0}, {1, 0, 'b', 0}, {3, 1, 'x', 0}, {3, 1, 'y', 1},
                                        {2, 0, 0, 0},    {2, 1, 0, 0},   {4, 2, 0, 0},   {0, 0, 0, 0},   {5, 0, 0, 0}};
-static const char lines[] = "D 5 0 97\nD 6 1 120\nD 7 0 98\nD 8 1 121\nE 9\n";
+static const char lines[] = "M 3 0 2\nD 5 0 97\nD 6 1 120\nD 7 0 98\nD 8 1 121\nE 9\n";
 
 /* In slot 7 a byte leaves, and both halves are dropped. */
 static const uint8_t dropping_script[] = {16, 2, 2, 1, 1, 0, 'a', 1, 0, 'b', 1, 1, 'c', 1, 1, 'd', 2, 1,
                                           2,  0, 2, 0, 3, 0, 'z', 0, 4, 2,   0, 5};
-static const char dropping_lines[] = "D 7 1 99\nR 7 5\nR 7 7\nD 8 0 97\nD 9 0 98\nE 10\n";
+static const char dropping_lines[] = "M 5 1 2\nD 7 1 99\nR 7 5\nR 7 7\nM 7 0 1\nD 8 0 97\nD 9 0 98\nE 10\n";
 
 static gel_command command(uint16_t code, uint16_t one, uint16_t two, uint16_t three) {
     gel_command c;
@@ -574,7 +597,8 @@ static void whole_scripts(void) {
     CHECK(fault_is(gel_script_judge(script + 4, bytes - 4), 14, 0));
     CHECK(fault_is(gel_script_judge(NULL, 0), 15, 0));
 
-    CHECK(gel_script_output(0) == 11 && gel_script_output(65536) == 655371 && gel_script_output(SIZE_MAX) == 655371);
+    CHECK(gel_script_output(0) == 11 && gel_script_output(1) == 22);
+    CHECK(gel_script_output(65536) == 720907 && gel_script_output(SIZE_MAX) == 720907);
     memset(store, 0, STORE);
     memset(output, '?', sizeof output);
     CHECK(gel_script_run(script, bytes, store, STORE, output, gel_script_output(bytes) - 1) == 0);
@@ -693,6 +717,7 @@ int main(void) {
     slots_refused();
     halves_dropped();
     full_queue_refilled();
+    slots_left();
     counts_mended();
     arbiter_chooses();
     greatest_wait();

@@ -12,6 +12,8 @@ use crate::{Sizes, MOST_QUEUES};
 #[derive(Clone, Copy)]
 pub struct Order {
     pub queue: u16,
+    /// The place in the lookahead of the cell that gave it, which has the first byte of its block.
+    pub cell: u16,
     /// Where its block begins.
     at: u16,
 }
@@ -65,14 +67,15 @@ impl Head {
         self.mark
     }
 
-    /// The next byte of a queue is asked for: where it will lie. With the first of a block goes the order for it.
+    /// The next byte of a queue is asked for, by a cell at this place: where it will lie. With the first of a block
+    /// goes the order for it.
     #[inline]
-    pub fn ask(&mut self, number: u16) -> u16 {
+    pub fn ask(&mut self, number: u16, cell: usize) -> u16 {
         let queue = &mut self.queues[number as usize];
         if queue.unasked == 0 {
             self.free_blocks -= 1;
             let at = self.free[self.free_blocks];
-            self.orders.push_back(Order { queue: number, at });
+            self.orders.push_back(Order { queue: number, cell: cell as u16, at });
             *queue = Ordered { at, unasked: self.block as u16 };
         }
         let at = queue.at;

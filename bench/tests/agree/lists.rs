@@ -83,6 +83,8 @@ fn much_happens_in_the_lists() {
     let mut stops = [0; 11];
     let mut drops = BTreeMap::new();
     let mut swaps = 0;
+    // Reads that left one slot, all of the lookahead, and a number between (request 2.6).
+    let mut left = [0; 3];
     for (_, sizes) in many_sizes() {
         swaps += swaps_of(sizes, &random_calls(sizes, 0));
         let store = vec![0; sizes.store()];
@@ -92,6 +94,14 @@ fn much_happens_in_the_lists() {
             stops[number(answer) as usize] += 1;
             *drops.entry(dropped(answer)).or_default() += 1;
         }
+        for (_, slots_left) in answers.iter().filter_map(|&answer| read(answer)) {
+            match slots_left {
+                _ if sizes.lookahead() == 1 => assert_eq!(slots_left, 1),
+                1 => left[0] += 1,
+                all if all == sizes.lookahead() => left[1] += 1,
+                _ => left[2] += 1,
+            }
+        }
         assert!(answers.iter().any(|&answer| delivery(answer).is_some()), "{sizes:?}: no delivery");
         assert!(answers.iter().any(|&answer| written(answer).is_some()), "{sizes:?}: no write");
         assert!(answers.iter().any(|&answer| read(answer).is_some()), "{sizes:?}: no read");
@@ -100,6 +110,7 @@ fn much_happens_in_the_lists() {
     assert!([1, 2, 3, 5, 7, 8, 9, 10].into_iter().all(|number| stops[number] == 0), "{stops:?}");
     assert!([[5, 0], [0, 7], [5, 7]].iter().all(|halves| drops.get(halves) > Some(&100)), "{drops:?}");
     assert!(swaps > 500, "{swaps} swaps");
+    assert!(left.iter().all(|&reads| reads > 500), "{left:?}");
 }
 
 /// No slot is stopped. Full traffic and round robin have no half dropped, and random traffic has where a queue is full

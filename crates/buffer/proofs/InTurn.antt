@@ -11,7 +11,7 @@ use Rattle.model.specs.Sizes.{paper, tailSize, headSize}
 use Rattle.model.specs.State.{Byte, empty, State, tailBytes, blocks}
 use Rattle.model.specs.Slot.{Call, Answer, oldestCell, delivery, afterDelivery, afterArrival, isOwed, afterRequest}
 use Rattle.model.specs.Slot.{tailLeft, earlyArrival, lateArrival, queueToWrite, afterWrite, storeWritten, queueToRead}
-use Rattle.model.specs.Slot.{afterRead, afterPhase, joined, asked}
+use Rattle.model.specs.Slot.{Refill, refillOf, afterRead, afterPhase, joined, asked}
 use Rattle.model.specs.Slot.{wrote, wroteStore, refilled, carriedOut}
 use Rattle.model.proofs.basics.Limits.{within-limits}
 use Rattle.model.proofs.basics.Rings.{fewer-blocks}
@@ -192,20 +192,20 @@ module _ (x : State) (store : List ℕ) (call : Call) (accepted : Accepted paper
                   ∙ ap (λ (y : State). storeWritten written y store) state-3
                   ∙ ap (λ (o : Option ℕ). storeWritten o (asked x call) store) to-write
 
-              module _ {readQueue : Option ℕ} (to-read : readQueue ≡ queueToRead (wrote x call)) where
-                pub can-read : ReadAsks x₄ readQueue store₄
+              module _ {refill : Refill} (to-read : refill ≡ refillOf (wrote x call)) where
+                pub can-read : ReadAsks x₄ (refill .queue) store₄
                 can-read =
-                    subst (λ (y : State). ReadAsks y readQueue store₄) (sym state-4)
-                    (subst (λ (o : Option ℕ). ReadAsks (wrote x call) o store₄) (sym to-read)
+                    subst (λ (y : State). ReadAsks y (refill .queue) store₄) (sym state-4)
+                    (subst (λ (r : Refill). ReadAsks (wrote x call) (r .queue) store₄) (sym to-read)
                     (subst (ReadAsks (wrote x call) (queueToRead (wrote x call))) (sym store-4)
                     (read-can x store call accepted)))
 
                 -- 5, and all of them.
-                module _ {x₅ : State} (read-is : x₅ ≡ afterRead readQueue x₄ store₄) where
+                module _ {x₅ : State} (read-is : x₅ ≡ afterRead (refill .queue) x₄ store₄) where
                   state-5 : x₅ ≡ refilled x store call
                   state-5 =
                       read-is
-                      ∙ ap (λ (o : Option ℕ). afterRead o x₄ store₄) to-read
+                      ∙ ap (λ (r : Refill). afterRead (r .queue) x₄ store₄) to-read
                       ∙ ap (λ (y : State). afterRead (queueToRead (wrote x call)) y store₄) state-4
                       ∙ ap (afterRead (queueToRead (wrote x call)) (wrote x call)) store-4
 
@@ -223,13 +223,16 @@ module _ (x : State) (store : List ℕ) (call : Call) (accepted : Accepted paper
                           requestNumber = j;
                           delivered = given;
                           written = written;
-                          read = readQueue;
+                          read = refill .queue;
+                          slotsLeft = refill .slotsLeft;
                         };
                         state = x₆;
                         store = store₄;
                       })
                       (carriedOut i j x store call)
                   all-in-turn i j turned gave =
-                      answer-is (carriedOut i j x store call) _ (reply-is _ _ refl refl refl gave to-write to-read)
+                      answer-is (carriedOut i j x store call) _
+                      (reply-is _ _ refl refl refl gave to-write (ap (λ (r : Refill). r .queue) to-read)
+                      (ap (λ (r : Refill). r .slotsLeft) to-read))
                       (turned ∙ ap afterPhase state-5)
                       store-4

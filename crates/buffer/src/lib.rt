@@ -181,7 +181,8 @@ impl State {
         let owes = plan.owes;
         let swaps = plan.swaps;
         let written = plan.written;
-        let fetched = plan.read;
+        let refill = plan.refill;
+        let fetched = refill.queue;
         // 1. The oldest cell leaves.
         let cell = self.cells[0];
         let gave = slot_steps::deliver(&mut self.head, regs.head_fill, cell);
@@ -236,6 +237,7 @@ impl State {
                 delivery: delivery,
                 written: written,
                 read: fetched,
+                slots_left: refill.slots_left,
             },
         }
     }

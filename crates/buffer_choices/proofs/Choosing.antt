@@ -10,8 +10,9 @@ use lib.Dec.{eqb}
 use lib.ListN.{length}
 use Rattle.model.specs.Sizes.{lookahead}
 use Rattle.model.specs.State.{countOf}
-use Rattle.model.specs.Slot.{fullest, refillQueue, queueToWrite, queueToRead}
-use Rattle.model.proofs.meaning.Steps.{move-writes-fullest, no-move-no-write, move-reads-scan, no-move-no-read}
+use Rattle.model.specs.Slot.{fullest, queueToWrite, Refill, refillBy, noRefill, refillOf}
+use Rattle.model.proofs.meaning.Steps.{move-writes-fullest, no-move-no-write}
+use Rattle.model.proofs.meaning.Place.{move-refills, no-move-no-refill}
 use Rattle.layout.specs.Lengths.{tailPlaces, headPlaces, cellPlaces}
 use Rattle.layout.specs.Entries.{bytesIn, countsIn, cellsIn}
 use Rattle.layout.specs.declared.Regs.{Regs}
@@ -44,18 +45,18 @@ module _ (regs : Regs) (m : Arrays) where
 
   pub read-chosen : eqb (regs .phase) (regs .block - 1) ≡ true → length (m .head) ≡ headPlaces
       → length (m .cells) ≡ cellPlaces
-      → {counts : List ℕ} {n l : ℕ} {found : Option ℕ} → n ≡ min (regs .«head_fill») headPlaces
+      → {counts : List ℕ} {n l : ℕ} {found : Refill} → n ≡ min (regs .«head_fill») headPlaces
       → l ≡ min (lookahead (sizesIn regs)) cellPlaces
-      → TallyOfAll counts (bytesIn n (m .head)) → found ≡ refillQueue (countsIn counts) (cellsIn l (m .cells))
-      → found ≡ queueToRead (stateIn regs m)
+      → TallyOfAll counts (bytesIn n (m .head)) → found ≡ refillBy (countsIn counts) (cellsIn l (m .cells))
+      → found ≡ refillOf (stateIn regs m)
   read-chosen t long cells-long {counts} {n} {l} e f w is =
       is
-      ∙ ap (λ (c : ℕ → ℕ). refillQueue c (cellsIn l (m .cells)))
+      ∙ ap (λ (c : ℕ → ℕ). refillBy c (cellsIn l (m .cells)))
       (counts-are (regs .«head_fill») headPlaces n counts (m .head) long e w)
-      ∙ ap (refillQueue (λ (q : ℕ). countOf q (bytesIn (regs .«head_fill») (m .head))))
+      ∙ ap (refillBy (λ (q : ℕ). countOf q (bytesIn (regs .«head_fill») (m .head))))
       (ap (λ (k : ℕ). cellsIn k (m .cells)) f ∙ cells-within (lookahead (sizesIn regs)) cellPlaces
       (m .cells) cells-long)
-      ∙ sym (move-reads-scan (stateIn regs m) t)
+      ∙ sym (move-refills (stateIn regs m) t)
 
-  pub none-read : eqb (regs .phase) (regs .block - 1) ≡ false → none ≡ queueToRead (stateIn regs m)
-  none-read t = sym (no-move-no-read (stateIn regs m) t)
+  pub none-read : eqb (regs .phase) (regs .block - 1) ≡ false → noRefill ≡ refillOf (stateIn regs m)
+  none-read t = sym (no-move-no-refill (stateIn regs m) t)

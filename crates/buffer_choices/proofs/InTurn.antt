@@ -14,10 +14,10 @@ use Rattle.model.specs.Basics.{choose}
 use Rattle.model.specs.Sizes.{paper}
 use Rattle.model.specs.State.{Byte, Cell, empty, State, owedOf, headBytes, blocks}
 use Rattle.model.specs.Slot.{Call, afterArrival, isOwed, swaps, earlyArrival, lateArrival, afterRequest}
-use Rattle.model.specs.Slot.{queueToWrite, afterWrite, storeWritten, queueToRead, joined, asked, wrote}
+use Rattle.model.specs.Slot.{queueToWrite, afterWrite, storeWritten, Refill, refillOf, joined, asked, wrote}
 use Rattle.model.proofs.basics.Cells.{owed-append}
 use Rattle.model.proofs.one_slot.Accepted.{Accepted, accepted-facts}
-use Rattle.layout.specs.Calls.{chosenIn, arrivalIn, requestIn, callIn}
+use Rattle.layout.specs.Calls.{chosenIn, arrivalIn, requestIn, refillIn, callIn}
 use Rattle.layout.specs.declared.Arrival.{Arrival}
 use Rattle.layout.specs.declared.Request.{Request}
 use Rattle.buffer.specs.declared.State as code
@@ -73,12 +73,12 @@ module _ {x : State} {store : List ℕ} {call : Call} (accepted : Accepted paper
         ∙ ap queueToWrite (state-3 x store call accepted delivered early-is arrived asked-is late-is filled)
 
     module _ {x₄ : State} {store₄ : List ℕ} (wrote-is : x₄ ≡ afterWrite written y₃)
-        (store-is : store₄ ≡ storeWritten written y₃ store) {readQueue : Option ℕ}
-        (to-read : readQueue ≡ queueToRead x₄) where
-      pub read-told : readQueue ≡ queueToRead (wrote x call)
+        (store-is : store₄ ≡ storeWritten written y₃ store) {refill : Refill}
+        (to-read : refill ≡ refillOf x₄) where
+      pub read-told : refill ≡ refillOf (wrote x call)
       read-told =
           to-read
-          ∙ ap queueToRead
+          ∙ ap refillOf
           (state-4 x store call accepted delivered early-is arrived asked-is late-is filled write-told wrote-is
           store-is)
 
@@ -149,12 +149,12 @@ module _ (s : code.State) (store : List ℕ) (asked-call : Call) (judged : Judge
   store-is : g .store ≡ storeWritten (chosenIn (g .written)) (stateOf (g .after-late)) store
   store-is = by .write-says to-write .1
 
-  read-is : chosenIn (g .readQueue) ≡ queueToRead (wrote x call)
+  read-is : refillIn (g .refill) ≡ refillOf (wrote x call)
   read-is =
       read-told accepted state-1 early-is arrived asked-is late-is filled (by .to-write-says) wrote-is store-is
       (by .to-read-says)
 
-  to-read : ReadAsks (stateOf (g .after-write)) (chosenIn (g .readQueue)) (g .store)
+  to-read : ReadAsks (stateOf (g .after-write)) (chosenIn (g .refill .queue)) (g .store)
   to-read =
       can-read x store call accepted state-1 early-is arrived asked-is late-is filled written-is wrote-is store-is
       read-is

@@ -10,9 +10,10 @@ use lib.ListN.{length}
 use Rattle.model.specs.Basics.{choose}
 use Rattle.model.specs.Sizes.{paper}
 use Rattle.model.specs.Slot.{Call, Answer, swaps, delivery, afterArrival, isOwed, afterRequest, queueToWrite}
-use Rattle.model.specs.Slot.{afterWrite, storeWritten, queueToRead, afterRead, afterPhase, slot}
+use Rattle.model.specs.Slot.{afterWrite, storeWritten, refillOf, afterRead, afterPhase, slot}
 use Rattle.layout.specs.declared.Chosen.{Chosen}
-use Rattle.layout.specs.Calls.{chosenIn, arrivalIn, requestIn, deliveryIn}
+use Rattle.layout.specs.declared.Refill.{Refill}
+use Rattle.layout.specs.Calls.{chosenIn, arrivalIn, requestIn, deliveryIn, refillIn}
 use Rattle.layout.specs.declared.Arrival.{Arrival}
 use Rattle.layout.specs.declared.Request.{Request}
 use Rattle.layout.specs.declared.Delivery.{Delivery}
@@ -36,7 +37,7 @@ pub record StepAnswers : Type 0 where
   pub written : Chosen
   pub after-write : code.State
   pub store : List ℕ
-  pub readQueue : Chosen
+  pub refill : Refill
   pub after-read : code.State
   pub after-turn : code.State
 
@@ -63,9 +64,9 @@ pub record ByContract (s : code.State) (store : List ℕ) (arrival : Arrival) (r
     pub write-says : WriteAsks (stateOf (g .after-late)) (chosenIn (g .written)) store
         → (stateOf (g .after-write) ≡ afterWrite (chosenIn (g .written)) (stateOf (g .after-late)))
         × (g .store ≡ storeWritten (chosenIn (g .written)) (stateOf (g .after-late)) store)
-    pub to-read-says : chosenIn (g .readQueue) ≡ queueToRead (stateOf (g .after-write))
-    pub read-says : ReadAsks (stateOf (g .after-write)) (chosenIn (g .readQueue)) (g .store)
-        → stateOf (g .after-read) ≡ afterRead (chosenIn (g .readQueue)) (stateOf (g .after-write)) (g .store)
+    pub to-read-says : refillIn (g .refill) ≡ refillOf (stateOf (g .after-write))
+    pub read-says : ReadAsks (stateOf (g .after-write)) (chosenIn (g .refill .queue)) (g .store)
+        → stateOf (g .after-read) ≡ afterRead (chosenIn (g .refill .queue)) (stateOf (g .after-write)) (g .store)
     pub turn-says : stateOf (g .after-read) .phase < stateOf (g .after-read) .sizes .b
         → stateOf (g .after-turn) ≡ afterPhase (stateOf (g .after-read))
 
@@ -78,7 +79,8 @@ answerOfSteps judged g = record {
     requestNumber = judged .«request_number»;
     delivered = deliveryIn (g .delivered);
     written = chosenIn (g .written);
-    read = chosenIn (g .readQueue);
+    read = chosenIn (g .refill .queue);
+    slotsLeft = g .refill .«slots_left»;
   };
   state = stateOf (g .after-turn);
   store = g .store;
@@ -92,7 +94,7 @@ pub record MakesTheSlot (s : code.State) (store : List ℕ) (call : Call) (judge
     pub ask-can : AskAsks (stateOf (g .after-early)) (g .owing) (requestIn (judged .request))
     pub arrive-late-can : CachesFit (stateOf (g .after-ask))
     pub write-can : WriteAsks (stateOf (g .after-late)) (chosenIn (g .written)) store
-    pub read-can : ReadAsks (stateOf (g .after-write)) (chosenIn (g .readQueue)) (g .store)
+    pub read-can : ReadAsks (stateOf (g .after-write)) (chosenIn (g .refill .queue)) (g .store)
     pub turn-can : stateOf (g .after-read) .phase < stateOf (g .after-read) .sizes .b
     pub answer-is : answerOfSteps judged g ≡ slot paper (stateOf s) store call
 

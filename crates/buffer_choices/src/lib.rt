@@ -1,5 +1,5 @@
 // What the steps of a slot must be told, of any state by value: whether the slot swaps, whether a request is Owed, the
-// queue to write and the queue to read. With the steps in turn they make the slot. Sizes, fills and queue numbers may
+// queue to write, the queue to read and its slots left. With the steps in turn they make the slot. Sizes, fills and queue numbers may
 // be anything: every number is read as some state.
 ghost use mathlib.Core.Path.{_≡_};
 ghost use mathlib.Core.Option.{some};
@@ -7,10 +7,10 @@ ghost use Prim.Native.Nat.{ℕ, _+_, _-_, _*_, _≤_, min};
 ghost use lib.Dec.{eqb};
 ghost use lib.ListN.{length};
 ghost use Rattle.model.specs.State.{tailBytes};
-ghost use Rattle.model.specs.Slot.{isOwed, swaps, fullest, queueToWrite, refillQueue, queueToRead};
+ghost use Rattle.model.specs.Slot.{isOwed, swaps, fullest, queueToWrite, refillBy, refillOf};
 ghost use Rattle.layout.specs.Lengths.{tailPlaces, headPlaces, queuePlaces};
 ghost use Rattle.layout.specs.Entries.{bytesIn, countsIn, cellsIn};
-ghost use Rattle.layout.specs.Calls.{chosenIn, arrivalIn, requestIn, callIn};
+ghost use Rattle.layout.specs.Calls.{chosenIn, arrivalIn, requestIn, refillAt, refillIn, callIn};
 ghost use Rattle.layout.specs.Figures.{blocksIn};
 ghost use Rattle.buffer.specs.Says.{stateOf, SlotSays};
 ghost use Rattle.buffer_choices.specs.Says.{TallyOfAll, swapsAt};
@@ -22,6 +22,7 @@ use layout::Chosen;
 use layout::HEAD_PLACES;
 use layout::OWED;
 use layout::QUEUE_PLACES;
+use layout::Refill;
 use layout::Reply;
 use layout::Request;
 use layout::TAIL_PLACES;
@@ -71,10 +72,17 @@ fn fullest_of(counts: [u16; 256], queues: usize, b: usize) -> Chosen
     found
 }
 
+// Where a scan stopped: at a queue's cell, with so many cells before it, or behind the last one.
+struct Stopped {
+    found: Chosen,
+    passed: usize,
+}
+
 // "Scan the cells from the oldest and stop at the first Owed cell that its queue's head bytes do not cover."
-fn scan(cells: &[u32], l: usize, credits: [u16; 256]) -> Chosen
+fn scan(cells: &[u32], l: usize, credits: [u16; 256]) -> Stopped
     requires { ⌜ l ≤ length (now cells) ⌝ }
-    ensures { λ r. ⌜ chosenIn r ≡ refillQueue (countsIn credits) (cellsIn l (now (cells .entry))) ⌝ }
+    ensures { λ r. ⌜ (refillAt (chosenIn (r .found)) (r .passed + 1)
+        ≡ refillBy (countsIn credits) (cellsIn l (now (cells .entry)))) × (r .passed ≤ l) ⌝ }
 {
     let mut left = credits;
     let mut i: usize = 0;
@@ -92,7 +100,10 @@ fn scan(cells: &[u32], l: usize, credits: [u16; 256]) -> Chosen
         }
         i += 1;
     };
-    found
+    Stopped {
+        found: found,
+        passed: i,
+    }
 }
 
 // The blocks of a queue: one past the last has none, nor has one past the array.
@@ -211,9 +222,9 @@ pub fn to_write(state: State) -> Chosen
     Chosen::Nothing
 }
 
-// 4. "Then a read": the queue to read, or none.
-pub fn to_read(state: State) -> Chosen
-    ensures { λ r. ⌜ chosenIn r ≡ queueToRead (stateOf state) ⌝ }
+// 4. "Then a read": the queue to read, or none, and in how many slots the cell leaves that it is for (2.6).
+pub fn to_read(state: State) -> Refill
+    ensures { λ r. ⌜ refillIn r ≡ refillOf (stateOf state) ⌝ }
 {
     if moves_now(state.regs.phase, state.regs.block) {
         let heads = tally(
@@ -221,9 +232,11 @@ pub fn to_read(state: State) -> Chosen
             minmax::smaller(state.regs.head_fill, HEAD_PLACES),
         );
         let l = buffer_margin::cells_within(state.regs.queues, state.regs.block);
-        return scan(&state.cells, l, heads);
+        let stopped = scan(&state.cells, l, heads);
+        let found = stopped.found;
+        return layout::refill_at(found, stopped.passed + 1);
     }
-    Chosen::Nothing
+    layout::refill_at(Chosen::Nothing, 0)
 }
 
 // The steps in turn, told by the four choices, are the slot: as a contract, so that it is proved with the code.
@@ -270,7 +283,8 @@ pub fn in_turn(state: State, arrival: Arrival, request: Request, store: &mut [u8
     let filled = asked.arrive(late);
     let written = to_write(filled);
     let wrote = filled.write(written, store);
-    let readQueue = to_read(wrote);
+    let refill = to_read(wrote);
+    let readQueue = refill.queue;
     let refilled = wrote.read(readQueue, store);
     let turned = refilled.turn();
     Slotted {
@@ -282,6 +296,7 @@ pub fn in_turn(state: State, arrival: Arrival, request: Request, store: &mut [u8
             delivery: delivery,
             written: written,
             read: readQueue,
+            slots_left: refill.slots_left,
         },
     }
 }

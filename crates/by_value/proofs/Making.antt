@@ -2,22 +2,25 @@
 use mathlib.Core.Path.{_≡_, refl, ap, sym, _∙_}
 use mathlib.Core.Bool.{Bool, true, false, not}
 use mathlib.Core.List.{List, [], _∷_, _++_, map}
-use Prim.Native.Nat.{ℕ, zero, suc}
+use Prim.Native.Nat.{ℕ, zero, suc, _<_}
+use native.Mathlib.Omega.{arith}
 use lib.ListN.{take, drop}
 use Rattle.model.specs.Basics.{when}
 use Rattle.model.specs.Sizes.{sizes, paperLimits, accepts, paper}
 use Rattle.model.specs.State.{State, fresh}
-use Rattle.model.specs.Slot.{Call}
+use Rattle.model.specs.Slot.{Call, Answer}
 use Rattle.model.specs.Lists.{run, lastState, lastStore}
 use Rattle.model.proofs.basics.Tests.{true-not-false}
 use Rattle.model.proofs.one_slot.Rules.{made-accepted}
-use Rattle.run_words.specs.Words.{callOf}
+use Rattle.run_words.specs.Words.{answerSlots, callOf}
+use Rattle.run_words.proofs.SlotsLeft.{slots-left-fit}
 use Rattle.run_in_place.specs.Says.{wordOf}
 use Rattle.run_in_place.proofs.Turns.{RunTo}
 use Rattle.run_checked.specs.Says.{runLength, callsRun}
 use Rattle.buffer.specs.declared.State as code
 use Rattle.buffer.specs.declared.Made.{Made}
-use Rattle.buffer.specs.Says.{stateOf, MakeSays}
+use Rattle.buffer.specs.declared.Slotted.{Slotted}
+use Rattle.buffer.specs.Says.{stateOf, MakeSays, SlotSays}
 use Rattle.by_value.specs.Says.{DrivenIs, DroveSays}
 use Rattle.by_value.specs.declared.Driven.{Driven}
 
@@ -29,6 +32,12 @@ sizes-refused {q} {b} {k} {m} says f = go (accepts paperLimits (sizes q b k)) (s
     go : (t : Bool) → m .number ≡ when (not t) 1 → t ≡ false
     go true e = absurd (f e)
     go false e = refl
+
+-- What a slot by value tells fits a word.
+pub word-fits : {s : code.State} {store : List ℕ} {call : Call} {r : Slotted} {store′ : List ℕ}
+    → SlotSays s store call r store′ → r .reply .«slots_left» < answerSlots
+word-fits {s} {store} {call} says =
+    omega (arith, ap (λ (a : Answer). a .reply .slotsLeft) (says .promised), slots-left-fit (stateOf s) store call)
 
 take-map : (n : ℕ) (calls : List ℕ) → take n (map callOf calls) ≡ map callOf (take n calls)
 take-map zero calls = refl

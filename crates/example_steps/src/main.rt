@@ -33,7 +33,8 @@ fn in_steps(t: u64, state: State, arrival: Arrival, request: Request, store: &mu
     // 4. First a write, then a read, if the phase is b - 1.
     let written = buffer_choices::to_write(filled);
     let wrote = filled.write(written, store);
-    let read = buffer_choices::to_read(wrote);
+    let refill = buffer_choices::to_read(wrote);
+    let read = refill.queue;
     let refilled = wrote.read(read, store);
     example_print::moves(t, delivery, written, read);
     // 5. The phase rises by one.

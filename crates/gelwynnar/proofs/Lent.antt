@@ -47,7 +47,7 @@ pub told-fields : (t : model.Reply) {dropped : ℕ} {gave : DeliveryFields} {wro
       queue = gave .queue;
       written = wrote .queue;
       read = fetched .queue;
-      «slots_left» = 0;
+      «slots_left» = t .slotsLeft;
     }) (told t)
 told-fields t x d w r = rw (x, d .0, d .1, d .2, w .0, w .1, r .0, r .1)
 

@@ -46,7 +46,6 @@ droppedTold (suc m) zero = 1
 droppedTold zero (suc n) = 2
 droppedTold (suc m) (suc n) = 3
 
--- No slot of this model tells how many slots are left.
 abbrev pub told : model.Reply → Answer
 told r = record {
   number = r .number;
@@ -58,7 +57,7 @@ told r = record {
   queue = deliveryTold (r .delivered);
   written = queueTold (r .written);
   read = queueTold (r .read);
-  «slots_left» = 0;
+  «slots_left» = r .slotsLeft;
 }
 
 -- "A making of a state checks 1 only." Accepted sizes give the fresh state, ready for slots with every store that is

@@ -12,7 +12,7 @@ pub mod sizes;
 pub mod slots;
 
 // The interface that the header describes: its GEL_VERSION.
-const VERSION: u32 = 4;
+const VERSION: u32 = 5;
 
 #[no_mangle]
 pub extern "C" fn gel_version() -> u32

@@ -32,7 +32,8 @@ use layout::TAIL_PLACES;
 use layout::TailArray;
 
 // What a slot answers. Where `number` is not 0 all else is 0. `dropped` is 1 where the arrival was dropped (5), 2 where
-// the request was (7), 3 where both were, else 0. `slots_left` is for a request to come.
+// the request was (7), 3 where both were, else 0. `slots_left` says at a read in how many slots the cell leaves that it
+// was for.
 #[repr(C)]
 pub struct Answer {
     pub number: u8,
@@ -124,6 +125,7 @@ pub fn tell(reply: Reply) -> Answer
     let gave = delivery_fields(delivery);
     let wrote = chosen_fields(written);
     let fetched = chosen_fields(read);
+    let left = reply.slots_left as u32;
     Answer {
         number: reply.number,
         dropped: dropped,
@@ -134,7 +136,7 @@ pub fn tell(reply: Reply) -> Answer
         queue: gave.queue,
         written: wrote.queue,
         read: fetched.queue,
-        slots_left: 0,
+        slots_left: left,
     }
 }
 

@@ -8,7 +8,7 @@ use lib.ListN.{drop}
 use borrow.Author.Tests.{eq-eqb, ne-eqb}
 use Rattle.model.specs.Sizes.{Sizes, lookahead}
 use Rattle.model.specs.State.{Cell}
-use Rattle.model.specs.Slot.{fullest, refillQueue}
+use Rattle.model.specs.Slot.{fullest, refillQueue, Refill}
 use Rattle.model.specs.Idle.{leadingEmpties, someQueue, moveDue, quietOf}
 use Rattle.model.proofs.idle.QuietCount.{scan-past-empties}
 use Rattle.lookahead.specs.Says.{scanEnds, Scanned}
@@ -32,19 +32,20 @@ module _ (s : Sizes) (tails heads : ℕ → ℕ) (cells : List Cell) (written : 
   pub due-to-write : true ≡ someQueue written → true ≡ moveDue s tails heads cells
   due-to-write e = rw (← fullest-is, ← e)
 
-  pub due-to-read : (found : Option ℕ) (left : ℕ → ℕ) (due : Bool) (empties : ℕ) → false ≡ someQueue written
-      → empties ≡ leadingEmpties cells → Scanned heads (drop empties cells) found left
+  pub due-to-read : (found : Option ℕ) (passed : ℕ) (left : ℕ → ℕ) (due : Bool) (empties : ℕ)
+      → false ≡ someQueue written
+      → empties ≡ leadingEmpties cells → Scanned heads (drop empties cells) found passed left
       → due ≡ someQueue found → due ≡ moveDue s tails heads cells
-  due-to-read found left due empties e leading scanned f = rw (← fullest-is, ← e) (f ∙ ap someQueue found-is)
+  due-to-read found passed left due empties e leading scanned f = rw (← fullest-is, ← e) (f ∙ ap someQueue found-is)
     where
-      ended : (o : Option ℕ) → scanEnds o left [] ≡ o
+      ended : (o : Option ℕ) → scanEnds o passed left [] .queue ≡ o
       ended none = refl
       ended (some q) = refl
 
       found-is : found ≡ refillQueue heads cells
       found-is =
           sym (ended found)
-          ∙ sym (scanned .ends [])
+          ∙ sym (ap (λ (r : Refill). r .queue) (scanned .ends []))
           ∙ ap (refillQueue heads) (append-nil (drop empties cells))
           ∙ ap (λ (k : ℕ). refillQueue heads (drop k cells)) leading
           ∙ scan-past-empties heads cells

@@ -12,7 +12,7 @@ use lib.Seq.{take-suc, take-suc-set, length-take-le, drop-cons, getD-take}
 use borrow.Author.Tests.{ltb-true}
 use Rattle.model.specs.Basics.{allOf}
 use Rattle.model.specs.State.{Cell, empty, held, owed, owes, owedOf, cellBelow}
-use Rattle.model.specs.Slot.{refillQueue}
+use Rattle.model.specs.Slot.{refillBy, onward}
 use Rattle.model.proofs.basics.Tests.{by-test, true-not-false}
 use Rattle.model.proofs.basics.AllOf.{all-of-at, all-of-more}
 use Rattle.model.proofs.basics.Cells.{owed-append}
@@ -51,7 +51,7 @@ kind-owes-nothing (suc zero) q v p h = refl
 kind-owes-nothing (suc (suc k)) q v p h = absurd (omega arith)
 
 kind-skipped : (credits : ℕ → ℕ) (k q v : ℕ) (cells : List Cell) → k < 2
-    → refillQueue credits (cellFor k q v ∷ cells) ≡ refillQueue credits cells
+    → refillBy credits (cellFor k q v ∷ cells) ≡ onward 1 (refillBy credits cells)
 unfolding cellFor
 kind-skipped credits zero q v cells h = refl
 kind-skipped credits (suc zero) q v cells h = refl
@@ -75,7 +75,7 @@ unfolding cellOf
 cell-owes-nothing c p h = kind-owes-nothing (c / 65536) (c / 256 % 256) (c % 256) p (omega arith)
 
 pub cell-skipped : (credits : ℕ → ℕ) (c : ℕ) (cells : List Cell) → c < 131072
-    → refillQueue credits (cellOf c ∷ cells) ≡ refillQueue credits cells
+    → refillBy credits (cellOf c ∷ cells) ≡ onward 1 (refillBy credits cells)
 unfolding cellOf
 cell-skipped credits c cells h = kind-skipped credits (c / 65536) (c / 256 % 256) (c % 256) cells (omega arith)
 

@@ -48,6 +48,7 @@ example-reads = record {
   no-delivery = refl;
   chosen-is = refl;
   none-chosen = refl;
+  refill-is = refl;
   reply-is = refl;
   call-is = refl;
   call-idle = refl;

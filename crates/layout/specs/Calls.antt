@@ -3,7 +3,7 @@ use mathlib.Core.Option.{Option, some, none}
 use Prim.Native.Nat.{ℕ}
 use Rattle.model.specs.State.{Byte, byte}
 use Rattle.model.specs.Slot as model
-use Rattle.model.specs.Slot.{Call}
+use Rattle.model.specs.Slot.{Call, noRefill}
 use Rattle.layout.specs.declared.Chosen.{Chosen}
 use Rattle.layout.specs.declared.Chosen.the-variants.{Queue, Nothing}
 use Rattle.layout.specs.declared.Arrival.{Arrival}
@@ -12,6 +12,7 @@ use Rattle.layout.specs.declared.Request.{Request}
 use Rattle.layout.specs.declared.Request.the-variants.{Asks, NoRequest}
 use Rattle.layout.specs.declared.Delivery.{Delivery}
 use Rattle.layout.specs.declared.Delivery.the-variants.{Gives, NoDelivery}
+use Rattle.layout.specs.declared.Refill.{Refill}
 use Rattle.layout.specs.declared.Reply.{Reply}
 
 abbrev pub arrivalIn : Arrival → Option Byte
@@ -30,6 +31,14 @@ abbrev pub chosenIn : Chosen → Option ℕ
 chosenIn (Queue q) = some q
 chosenIn Nothing = none
 
+-- The choice of a queue for the cell at a place, or of none.
+abbrev pub refillAt : Option ℕ → ℕ → model.Refill
+refillAt none place = noRefill
+refillAt (some q) place = record { queue = some q; slotsLeft = place }
+
+abbrev pub refillIn : Refill → model.Refill
+refillIn r = record { queue = chosenIn (r .queue); slotsLeft = r .«slots_left» }
+
 abbrev pub callIn : Arrival → Request → Call
 callIn arrival request = record { arrival = arrivalIn arrival; request = requestIn request }
 
@@ -41,4 +50,5 @@ replyIn r = record {
   delivered = deliveryIn (r .delivery);
   written = chosenIn (r .written);
   read = chosenIn (r .read);
+  slotsLeft = r .«slots_left»;
 }

@@ -17,7 +17,7 @@ use Rattle.layout.specs.declared.Request.the-variants.{Asks, NoRequest}
 use Rattle.layout.specs.declared.Delivery.the-variants.{Gives, NoDelivery}
 use Rattle.layout.specs.declared.Reply.{Reply}
 use Rattle.layout.specs.declared.Regs.{Regs}
-use Rattle.layout.specs.Calls.{arrivalIn, requestIn, deliveryIn, chosenIn, callIn, replyIn}
+use Rattle.layout.specs.Calls.{arrivalIn, requestIn, deliveryIn, chosenIn, refillIn, callIn, replyIn}
 use Rattle.layout.specs.Counts.{ByQueue, CountsAre, Tallies}
 use Rattle.layout.specs.Views.{Arrays, Long, stateIn}
 use Rattle.layout.specs.Lent.{Lent, found, left, countsFound, countsLeft}
@@ -65,6 +65,7 @@ exampleReply = record {
   delivery = Gives 4 5;
   written = Queue 6;
   read = Queue 7;
+  «slots_left» = 8;
 }
 
 -- The counts by queue beside that state, in arrays of 64.
@@ -105,6 +106,7 @@ pub record ExampleReads : Type 0 where
   pub no-delivery : deliveryIn NoDelivery ≡ none
   pub chosen-is : chosenIn (Queue 2) ≡ some 2
   pub none-chosen : chosenIn Nothing ≡ none
+  pub refill-is : refillIn (record { queue = Queue 2; «slots_left» = 3 }) ≡ record { queue = some 2; slotsLeft = 3 }
   pub reply-is : replyIn exampleReply ≡ record {
     number = 1;
     arrivalNumber = 2;
@@ -112,6 +114,7 @@ pub record ExampleReads : Type 0 where
     delivered = some (byte 4 5);
     written = some 6;
     read = some 7;
+    slotsLeft = 8;
   }
   pub call-is : callIn (Comes 1 65) (Asks 2) ≡ both 1 65 2
   pub call-idle : callIn NoArrival NoRequest ≡ idle

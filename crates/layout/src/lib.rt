@@ -1,8 +1,9 @@
 // How a state lies in registers and arrays, and what a slot is asked and answers: values, types and lengths that the
 // crates above share.
 ghost use mathlib.Core.Path.{_≡_};
+ghost use Prim.Native.Nat.{_<_};
 ghost use Rattle.model.specs.Slot.{numberAlone};
-ghost use Rattle.layout.specs.Calls.{replyIn};
+ghost use Rattle.layout.specs.Calls.{chosenIn, refillAt, refillIn, replyIn};
 ghost use Rattle.layout.specs.Example.{ExampleReads};
 ghost use Rattle.layout.specs.Views.{regsIn};
 
@@ -30,8 +31,31 @@ pub enum Chosen {
     Nothing,
 }
 
+// The block that is to be read: its queue or none, and in how many slots the cell leaves that it is for, else 0.
+pub struct Refill {
+    pub queue: Chosen,
+    pub slots_left: u16,
+}
+
+// The choice of a queue for the cell at a place, the oldest being 1; where there is none it has no place.
+pub fn refill_at(queue: Chosen, place: usize) -> Refill
+    requires { ⌜ place < 65536 ⌝ }
+    ensures { λ r. ⌜ refillIn r ≡ refillAt (chosenIn queue) place ⌝ }
+{
+    match queue {
+        Chosen::Queue(q) => Refill {
+            queue: Chosen::Queue(q),
+            slots_left: place as u16,
+        },
+        Chosen::Nothing => Refill {
+            queue: Chosen::Nothing,
+            slots_left: 0,
+        },
+    }
+}
+
 // What a slot tells: the paper's number or 0, the number of each half that was dropped, 5 and 7, or 0, the
-// delivery, the queues written and read.
+// delivery, the queues written and read, and at a read in how many slots the cell leaves that it was for, else 0.
 pub struct Reply {
     pub number: u8,
     pub arrival_number: u8,
@@ -39,6 +63,7 @@ pub struct Reply {
     pub delivery: Delivery,
     pub written: Chosen,
     pub read: Chosen,
+    pub slots_left: u16,
 }
 
 // A number, and nothing else to tell.
@@ -52,6 +77,7 @@ pub fn number_alone(number: u8) -> Reply
         delivery: Delivery::NoDelivery,
         written: Chosen::Nothing,
         read: Chosen::Nothing,
+        slots_left: 0,
     }
 }
 

@@ -11,9 +11,9 @@ use lib.Seq.{drop-append-le, getD-set-other, set-getD}
 use mir.Val.{boolByte}
 use borrow.Author.Tests.{eqb-true, eqb-false, leb-true, leb-false}
 use Rattle.model.specs.State.{Cell, empty, held, owed, owes, owedOf}
-use Rattle.model.specs.Slot.{refillQueue}
+use Rattle.model.specs.Slot.{refillPlace, refillBy, onward}
 use Rattle.model.proofs.basics.Tests.{by-test}
-use Rattle.model.proofs.meaning.Scan.{scan-stops, scan-goes-on}
+use Rattle.model.proofs.meaning.Place.{refill-stops, refill-goes-on, onward-on, places-on-none}
 use Rattle.layout.specs.Lengths.{queuePlaces}
 use Rattle.layout.specs.Entries.{countsIn, cellsIn}
 use Rattle.layout.proofs.Counts.{counts-zero, counts-stored}
@@ -62,59 +62,93 @@ module _ {i l : ℕ} {before after : List ℕ} (fits : l ≤ length before) (w :
     same-length = length-set after i cell ∙ w .same-length;
   }
 
--- The scan before cell i: whatever follows, it answers as the scan of the cells from i on with the credits left.
+-- The scan before cell i: whatever follows, it answers as the scan of the cells from i on with the credits left, so
+-- many places on.
 pub record ScannedTo (i from l : ℕ) (xs credits left : List ℕ) : Type 0 where
+  pub onwards : from ≤ i
   pub within : i ≤ l
   pub long : length left ≡ queuePlaces
   pub goes-on : (rest : List Cell)
-      → refillQueue (countsIn credits) (drop from (cellsIn l xs) ++ rest)
-      ≡ refillQueue (countsIn left) (drop i (cellsIn l xs) ++ rest)
+      → refillBy (countsIn credits) (drop from (cellsIn l xs) ++ rest)
+      ≡ onward (i - from) (refillBy (countsIn left) (drop i (cellsIn l xs) ++ rest))
+
+pub scan-starts : {from l : ℕ} {xs credits : List ℕ} → from ≤ l → length credits ≡ queuePlaces
+    → ScannedTo from from l xs credits credits
+scan-starts {from} {l} {xs} {credits} h long = record {
+  onwards = omega arith;
+  within = h;
+  long = long;
+  goes-on = λ rest.
+      rw (nothing-between, places-on-none (refillPlace (countsIn credits) (drop from (cellsIn l xs) ++ rest)));
+}
+  where
+    nothing-between : from - from ≡ 0
+    nothing-between = omega arith
 
 module _ {i from l : ℕ} {xs credits left : List ℕ} (fits : l ≤ length xs) (w : ScannedTo i from l xs credits left) where
-  pub scan-ends : i ≡ l → Scanned (countsIn credits) (drop from (cellsIn l xs)) none (countsIn left)
+  pub scan-ends : i ≡ l → Scanned (countsIn credits) (drop from (cellsIn l xs)) none (i - from) (countsIn left)
   scan-ends last =
       let passed : length (cellsIn l xs) ≤ i = omega (arith, cells-length l xs fits) in
       record { ends = λ rest. w .goes-on rest ∙ rw (drop-of-length-le (cellsIn l xs) passed) }
 
   module _ (more : i < l) where
-    pub scan-skips : getD xs i 0 < 131072 → ScannedTo (i + 1) from l xs credits left
-    scan-skips other = record {
+    -- A cell that is passed leaves the choice to those behind it, one place on.
+    abbrev Passes : List ℕ → Type 0
+    Passes left′ = (rest : List Cell)
+        → refillBy (countsIn left) (drop i (cellsIn l xs) ++ rest)
+        ≡ onward 1 (refillBy (countsIn left′) (drop (i + 1) (cellsIn l xs) ++ rest))
+
+    one-more : (left′ : List ℕ) → length left′ ≡ queuePlaces → Passes left′ → ScannedTo (i + 1) from l xs credits left′
+    one-more left′ long passes = record {
+      onwards = omega (arith, w .onwards);
       within = omega arith;
-      long = w .long;
+      long = long;
       goes-on = λ rest.
           w .goes-on rest
-          ∙ rw (cells-from xs fits more)
-          (cell-skipped (countsIn left) (getD xs i 0) (drop (i + 1) (cellsIn l xs) ++ rest) other);
+          ∙ ap (onward (i - from)) (passes rest)
+          ∙ onward-on (i - from) 1 (refillBy (countsIn left′) (drop (i + 1) (cellsIn l xs) ++ rest))
+          ∙ ap (λ (k : ℕ). onward k (refillBy (countsIn left′) (drop (i + 1) (cellsIn l xs) ++ rest)))
+          (let e : i - from + 1 ≡ i + 1 - from = omega (arith, w .onwards) in e);
     }
+
+    pub scan-skips : getD xs i 0 < 131072 → ScannedTo (i + 1) from l xs credits left
+    scan-skips other =
+        one-more left (w .long) (λ rest. rw (cells-from xs fits more)
+        (cell-skipped (countsIn left) (getD xs i 0) (drop (i + 1) (cellsIn l xs) ++ rest) other))
 
     module _ (owing : 131072 ≤ getD xs i 0) where
       owed-next : drop i (cellsIn l xs) ≡ owed (queueAt xs i) ∷ drop (i + 1) (cellsIn l xs)
       owed-next = cells-from xs fits more ∙ rw (cell-owed (getD xs i 0) owing)
 
-      pub scan-finds : getD left (queueAt xs i) 0 ≡ 0
-          → Scanned (countsIn credits) (drop from (cellsIn l xs)) (some (queueAt xs i)) (countsIn left)
+      stops-here : getD left (queueAt xs i) 0 ≡ 0 → (rest : List Cell)
+          → refillBy (countsIn left) (drop i (cellsIn l xs) ++ rest)
+          ≡ record { queue = some (queueAt xs i); slotsLeft = 1 }
       unfolding countsIn
+      stops-here uncovered rest =
+          rw owed-next
+          (refill-stops (countsIn left) (queueAt xs i) (drop (i + 1) (cellsIn l xs) ++ rest) uncovered)
+
+      pub scan-finds : getD left (queueAt xs i) 0 ≡ 0
+          → Scanned (countsIn credits) (drop from (cellsIn l xs)) (some (queueAt xs i)) (i - from) (countsIn left)
       scan-finds uncovered = record {
         ends = λ rest.
             w .goes-on rest
-            ∙ rw owed-next
-            (scan-stops (countsIn left) (queueAt xs i) (drop (i + 1) (cellsIn l xs) ++ rest) uncovered);
+            ∙ ap (onward (i - from)) (stops-here uncovered rest)
+            ∙ ap (λ (k : ℕ). record { queue = some (queueAt xs i); slotsLeft = k })
+            (let e : 1 + (i - from) ≡ i - from + 1 = omega arith in e);
       }
 
       pub scan-spends : queueAt xs i < queuePlaces → 1 ≤ getD left (queueAt xs i) 0
           → ScannedTo (i + 1) from l xs credits (set left (queueAt xs i) (getD left (queueAt xs i) 0 - 1))
       unfolding countsIn
-      scan-spends below covered = record {
-        within = omega arith;
-        long = length-set left (queueAt xs i) (getD left (queueAt xs i) 0 - 1) ∙ w .long;
-        goes-on = λ rest.
-            w .goes-on rest
-            ∙ rw (
-              owed-next,
-              counts-stored left (queueAt xs i) (getD left (queueAt xs i) 0 - 1) (omega (arith, w .long)),
-            )
-            (scan-goes-on (countsIn left) (queueAt xs i) (drop (i + 1) (cellsIn l xs) ++ rest) covered);
-      }
+      scan-spends below covered =
+          one-more (set left (queueAt xs i) (getD left (queueAt xs i) 0 - 1))
+          (length-set left (queueAt xs i) (getD left (queueAt xs i) 0 - 1) ∙ w .long)
+          (λ rest. rw (
+            owed-next,
+            counts-stored left (queueAt xs i) (getD left (queueAt xs i) 0 - 1) (omega (arith, w .long)),
+          )
+          (refill-goes-on (countsIn left) (queueAt xs i) (drop (i + 1) (cellsIn l xs) ++ rest) covered))
 
     -- What a cell takes of its queue's credits, 1 where it is Owed and else 0, they cover or not.
     abbrev takes : ℕ
@@ -131,7 +165,7 @@ module _ {i from l : ℕ} {xs credits left : List ℕ} (fits : l ≤ length xs) 
         (scan-skips (leb-false 131072 (getD xs i 0) t)))
 
     pub scan-lacks : getD left (queueAt xs i) 0 < takes
-        → Scanned (countsIn credits) (drop from (cellsIn l xs)) (some (queueAt xs i)) (countsIn left)
+        → Scanned (countsIn credits) (drop from (cellsIn l xs)) (some (queueAt xs i)) (i - from) (countsIn left)
     scan-lacks lacking =
         by-test (leb 131072 (getD xs i 0))
         (λ t. scan-finds (leb-true 131072 (getD xs i 0) t) (omega (arith, rw t at lacking)))

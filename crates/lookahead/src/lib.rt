@@ -2,7 +2,7 @@
 // the array then holds by the model's own definition.
 ghost use mathlib.Core.Path.{_≡_};
 ghost use mathlib.Core.Bool.{true};
-ghost use Prim.Native.Nat.{ℕ, _≤_, _<_};
+ghost use Prim.Native.Nat.{ℕ, _-_, _≤_, _<_};
 ghost use lib.ListN.{length, drop};
 ghost use Rattle.model.specs.Basics.{allOf};
 ghost use Rattle.model.specs.State.{owed, cellBelow};
@@ -30,9 +30,10 @@ pub fn shift(cells: &mut [u32], l: usize, cell: u32)
     cells[l - 1] = cell;
 }
 
-// Where a scan stopped, and the credits that it left.
+// Where a scan stopped: at a queue's cell, or behind the last one; which place that is, and the credits that it left.
 pub struct Stopped {
     pub found: Chosen,
+    pub place: usize,
     pub left: CountArray,
 }
 
@@ -59,7 +60,8 @@ pub fn scan(cells: &[u32], from: usize, l: usize, credits: CountArray) -> Stoppe
     requires { ⌜ (from ≤ l) × (l ≤ length (now cells))
         × (allOf (cellBelow queuePlaces) (cellsIn l (now cells)) ≡ true) ⌝ }
     ensures { λ r. ⌜ Scanned (countsIn credits) (drop from (cellsIn l (now (cells .entry))))
-        (chosenIn (r .found)) (countsIn (r .left)) ⌝ }
+        (chosenIn (r .found)) (r .place - from) (countsIn (r .left))
+        × (from ≤ r .place) × (r .place ≤ l) ⌝ }
 {
     let mut left = credits;
     let mut i = from;
@@ -83,6 +85,7 @@ pub fn scan(cells: &[u32], from: usize, l: usize, credits: CountArray) -> Stoppe
     };
     Stopped {
         found: found,
+        place: i,
         left: left,
     }
 }

@@ -129,10 +129,10 @@ line-fresh : (streams : ℕ → List ℕ) (n : ℕ) → lineOf streams (replicat
 line-fresh streams zero = refl
 line-fresh streams (suc n) = ap (λ (l : List (Option Byte)). none ∷ l) (line-fresh streams n)
 
-abbrev quiet : Sizes → Ideal
+abbrev pub quiet : Sizes → Ideal
 quiet s = record { waiting = λ q. []; line = replicate (lookahead s) none }
 
-stands-fresh : (limits : Limits) (s : Sizes) (store : List ℕ) → standsFor (fresh (full limits) s) store ≡ quiet s
+pub stands-fresh : (limits : Limits) (s : Sizes) (store : List ℕ) → standsFor (fresh (full limits) s) store ≡ quiet s
 stands-fresh limits s store =
     same-ideal (standsFor (fresh (full limits) s) store) (quiet s)
     (λ q. rw (ring-fresh (s .Q) q) (append-nil (drop (owed-now q) []) ∙ drop-nil (owed-now q)))

@@ -79,6 +79,8 @@ module _ (design : Design) (x : State) (store : List ℕ) (call : Call) where
           ap (λ (a : Answer). a .reply .written) here ∙ sym (ap (λ (a : Answer). a .reply .written) alone),
           ap (λ (a : Answer). a .reply .read) here ∙ sym (ap (λ (a : Answer). a .reply .read) alone),
         );
+        same-slots-left =
+            ap (λ (a : Answer). a .reply .slotsLeft) here ∙ sym (ap (λ (a : Answer). a .reply .slotsLeft) alone);
         same-state = ap (λ (a : Answer). a .state) here ∙ sym (ap (λ (a : Answer). a .state) alone);
         same-store = ap (λ (a : Answer). a .store) here ∙ sym (ap (λ (a : Answer). a .store) alone);
       }

@@ -23,6 +23,8 @@ pub mod arbiter
 pub mod Swaps
 -- Request 2.5: what a slot does of which a half is dropped.
 pub mod Halves
+-- Request 2.6: how many slots are left at a read, and that the byte leaves then.
+pub mod SlotsLeft
 -- The high marks are the greatest fills.
 pub mod HighMarks
 -- The paper's examples and its numbers at their ends, computed.

@@ -124,5 +124,5 @@ then-by-number = refl
 pub ten-as-step-4-finds : allOf holds (
     slots paper (made (sizes 2 2 1) phase 1 tail [] head (replicate 4 (byte 1 65))
     cells (owed 1 ∷ empty ∷ owed 0 ∷ []) blocks (1 ∷ 0 ∷ []))
-    (idle ⇒ reads 0 delivering byte 1 65 ∷ []) ∷ []) ≡ true
+    (idle ⇒ reads 0 2 delivering byte 1 65 ∷ []) ∷ []) ≡ true
 ten-as-step-4-finds = refl

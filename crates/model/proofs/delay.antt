@@ -1,5 +1,5 @@
 -- The delay is fixed and the bytes are right: an accepted slot is a slot of the ideal buffer, whose line is a delay
--- line.
+-- line. So what a read foretells comes too.
 pub mod Store
 pub mod Line
 pub mod Delivery
@@ -8,3 +8,4 @@ pub mod Moves
 pub mod IdealSlot
 pub mod Delay
 pub mod Sentences
+pub mod Foretold

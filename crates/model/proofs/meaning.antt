@@ -4,5 +4,6 @@ pub mod Steps
 pub mod Worked
 pub mod Fullest
 pub mod Scan
+pub mod Place
 pub mod Margin
 pub mod RuledOut

@@ -22,9 +22,10 @@ infix 80 _delivering_
 infix 75 _fills_and_marks_and_
 pub data Outcome : Type 0 where
   taken : Outcome
-  -- Taken, and the block of this queue that moves.
+  -- Taken, and the block of this queue that moves; at a read, after the queue, in how many slots the cell leaves that
+  -- the block was for.
   writes : ℕ → Outcome
-  reads : ℕ → Outcome
+  reads : ℕ → ℕ → Outcome
   -- Taken, and the youngest cell is Held, with this queue and byte.
   takenHeld : ℕ → ℕ → Outcome
   -- An outcome of a slot of which a half or both are dropped, after the arrival's number and the request's.
@@ -91,26 +92,28 @@ isHeld q v (owed p) = false
 abbrev youngestOf : List Cell → Cell
 youngestOf cs = getD cs (length cs - 1) empty
 
--- A slot's answer has this number, these of its halves and this delivery, and these are the queues written and read.
-abbrev answers : ℕ → ℕ → ℕ → Option Byte → Option ℕ → Option ℕ → Answer → Bool
-answers number arrivalNumber requestNumber delivered written read a = allTrue (
+-- A slot's answer has this number, these of its halves and this delivery; these are the queues written and read, and
+-- the slots left at the read.
+abbrev answers : ℕ → ℕ → ℕ → Option Byte → Option ℕ → Option ℕ → ℕ → Answer → Bool
+answers number arrivalNumber requestNumber delivered written read slotsLeft a = allTrue (
     eqb (a .reply .number) number ∷
     eqb (a .reply .arrivalNumber) arrivalNumber ∷
     eqb (a .reply .requestNumber) requestNumber ∷
     sameByte (a .reply .delivered) delivered ∷
     same (a .reply .written) written ∷
-    same (a .reply .read) read ∷ [])
+    same (a .reply .read) read ∷
+    eqb (a .reply .slotsLeft) slotsLeft ∷ [])
 
 -- An answer is this outcome, with these numbers of its halves and this delivery. A refused slot hands its state back as
 -- given, so that the cell that was to leave is there still.
 abbrev meets : Outcome → ℕ → ℕ → Option Byte → Answer → Bool
-meets taken i j y a = answers 0 i j y none none a
-meets (writes q) i j y a = answers 0 i j y (some q) none a
-meets (reads q) i j y a = answers 0 i j y none (some q) a
-meets (takenHeld q v) i j y a = answers 0 i j y none none a && isHeld q v (youngestOf (a .state .cells))
+meets taken i j y a = answers 0 i j y none none 0 a
+meets (writes q) i j y a = answers 0 i j y (some q) none 0 a
+meets (reads q n) i j y a = answers 0 i j y none (some q) n a
+meets (takenHeld q v) i j y a = answers 0 i j y none none 0 a && isHeld q v (youngestOf (a .state .cells))
 meets (drops m n outcome) i j y a = meets outcome m n y a
-meets (refused n) i j y a = answers n i j y none none a
-meets (misses q) i j y a = answers 8 i j y none none a && eqb (owes q (oldestCell (a .state .cells))) 1
+meets (refused n) i j y a = answers n i j y none none 0 a
+meets (misses q) i j y a = answers 8 i j y none none 0 a && eqb (owes q (oldestCell (a .state .cells))) 1
 meets (outcome delivering x) i j y a = meets outcome i j (some x) a
 meets (outcome fills t and h marks m and n) i j y a = allTrue (
     meets outcome i j y a ∷
@@ -172,7 +175,7 @@ examples =
     arrival 0 67 ⇒ drops 5 0 taken ∷
     idle ⇒ taken ∷
     request 0 ⇒ taken ∷
-    arrival 0 67 ⇒ drops 5 0 (reads 0) ∷
+    arrival 0 67 ⇒ drops 5 0 (reads 0 1) ∷
     arrival 0 67 ⇒ taken delivering byte 0 65 ∷ []) ∷
     -- C9: "empty queue, arrival and request of it in one slot: taken, Held." With b 1 the byte would be a block, and it
     -- does not go to slow store.
@@ -192,20 +195,20 @@ examples =
     -- C10: "Q 2, b 2, a block of each queue stored, phase 0: request 1, then 0. The first read is of queue 1, the next
     -- of queue 0." The store holds zeros, and so do the bytes delivered.
     slots paper (made (sizes 2 2 1) phase 0 tail [] head [] cells (replicate 3 empty) blocks (1 ∷ 1 ∷ []))
-    (request 1 ⇒ taken ∷ request 0 ⇒ reads 1 ∷ idle ⇒ taken ∷
-    idle ⇒ reads 0 delivering byte 1 0 ∷ idle ⇒ taken delivering byte 0 0 ∷ []) ∷
+    (request 1 ⇒ taken ∷ request 0 ⇒ reads 1 2 ∷ idle ⇒ taken ∷
+    idle ⇒ reads 0 1 delivering byte 1 0 ∷ idle ⇒ taken delivering byte 0 0 ∷ []) ∷
     -- "With 2 cells instead of 3, queue 0 misses."
     slots (oneFewer paperLimits)
     (made (sizes 2 2 1) phase 0 tail [] head [] cells (replicate 2 empty) blocks (1 ∷ 1 ∷ []))
-    (request 1 ⇒ taken ∷ request 0 ⇒ reads 1 ∷ idle ⇒ taken delivering byte 1 0 ∷ idle ⇒ misses 0 ∷ []) ∷
+    (request 1 ⇒ taken ∷ request 0 ⇒ reads 1 1 ∷ idle ⇒ taken delivering byte 1 0 ∷ idle ⇒ misses 0 ∷ []) ∷
     -- Both from a fresh state, where arrivals store the blocks.
     slots paper (fresh paper (sizes 2 2 1))
     (arrival 0 65 ⇒ taken ∷ arrival 0 66 ⇒ writes 0 ∷ arrival 1 67 ⇒ taken ∷ arrival 1 68 ⇒ writes 1 ∷
-    request 1 ⇒ taken ∷ request 0 ⇒ reads 1 ∷ idle ⇒ taken ∷
-    idle ⇒ reads 0 delivering byte 1 67 ∷ idle ⇒ taken delivering byte 0 65 ∷ []) ∷
+    request 1 ⇒ taken ∷ request 0 ⇒ reads 1 2 ∷ idle ⇒ taken ∷
+    idle ⇒ reads 0 1 delivering byte 1 67 ∷ idle ⇒ taken delivering byte 0 65 ∷ []) ∷
     slots (oneFewer paperLimits) (fresh (oneFewer paperLimits) (sizes 2 2 1))
     (arrival 0 65 ⇒ taken ∷ arrival 0 66 ⇒ writes 0 ∷ arrival 1 67 ⇒ taken ∷ arrival 1 68 ⇒ writes 1 ∷
-    request 1 ⇒ taken ∷ request 0 ⇒ reads 1 ∷ idle ⇒ taken delivering byte 1 67 ∷ idle ⇒ misses 0 ∷ []) ∷
+    request 1 ⇒ taken ∷ request 0 ⇒ reads 1 1 ∷ idle ⇒ taken delivering byte 1 67 ∷ idle ⇒ misses 0 ∷ []) ∷
     -- C11: "a made state, Q 1, b 2, K 1, one block, empty head, oldest cell Owed and the other empty, idle slot: 8."
     -- It names no phase, so in both; a read in the same slot comes too late.
     slots paper (made (sizes 1 2 1) phase 0 tail [] head [] cells (owed 0 ∷ empty ∷ []) blocks (1 ∷ []))

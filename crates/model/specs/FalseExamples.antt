@@ -61,8 +61,11 @@ falseExamples =
     withB2 (arrival 0 65 ⇒ writes 0 ∷ []) ∷
     -- The same of a read.
     withB1 (arrival 0 65 ⇒ writes 0 ∷ request 0 ⇒ taken ∷ []) ∷
-    withB1 (arrival 0 65 ⇒ writes 0 ∷ request 0 ⇒ reads 1 ∷ []) ∷
-    withB2 (arrival 0 65 ⇒ reads 0 ∷ []) ∷
+    withB1 (arrival 0 65 ⇒ writes 0 ∷ request 0 ⇒ reads 1 1 ∷ []) ∷
+    withB2 (arrival 0 65 ⇒ reads 0 0 ∷ []) ∷
+    -- Another number of slots left at a read.
+    withB1 (arrival 0 65 ⇒ writes 0 ∷ request 0 ⇒ reads 0 0 ∷ []) ∷
+    withB1 (arrival 0 65 ⇒ writes 0 ∷ request 0 ⇒ reads 0 2 ∷ []) ∷
     -- The same of a delivery, of which the queue and the value may be another.
     withB1 (both 0 65 0 ⇒ taken ∷ idle ⇒ taken ∷ []) ∷
     withB1 (both 0 65 0 ⇒ taken ∷ idle ⇒ taken delivering byte 1 65 ∷ []) ∷

@@ -21,6 +21,7 @@ pub record RunsAs (a b : Answer) : Type 0 where
   pub nothing-dropped : (b .reply .arrivalNumber ≡ 0) × (b .reply .requestNumber ≡ 0)
   pub same-delivery : a .reply .delivered ≡ b .reply .delivered
   pub same-moves : (a .reply .written ≡ b .reply .written) × (a .reply .read ≡ b .reply .read)
+  pub same-slots-left : a .reply .slotsLeft ≡ b .reply .slotsLeft
   pub same-state : a .state ≡ b .state
   pub same-store : a .store ≡ b .store
 

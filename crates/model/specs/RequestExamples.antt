@@ -4,7 +4,8 @@ use mathlib.Core.List.{List, [], _∷_}
 use mathlib.Core.Option.{some, none}
 use lib.ListN.{replicate}
 use Rattle.model.specs.Sizes.{sizes, paper}
-use Rattle.model.specs.State.{byte, empty, owed, State, fresh, withTailMark, withHeadMark, withLastAsked}
+use Rattle.model.specs.State.{byte, empty, held, owed, State, fresh, withTailMark, withHeadMark}
+use Rattle.model.specs.State.{withLastAsked}
 use Rattle.model.specs.Calls.{arrival, request, both, idle}
 use Rattle.model.specs.Examples.{_⇒_, arbiter_then_asks_last_, taken, writes, reads, takenHeld, drops}
 use Rattle.model.specs.Examples.{refused, misses, _delivering_, _fills_and_marks_and_, Example, blockIs, noBlock}
@@ -50,7 +51,7 @@ requestExamples =
     -- Where it would be Owed, 5 comes as before: the block is in store. By request 2.5 the request goes on.
     slots paper (fresh paper (sizes 1 2 1))
     (arrival 0 65 ⇒ taken ∷ arrival 0 66 ⇒ writes 0 ∷ both 0 67 0 ⇒ drops 5 0 taken ∷
-    idle ⇒ reads 0 ∷ idle ⇒ taken delivering byte 0 65 ∷ idle ⇒ taken ∷ []) ∷
+    idle ⇒ reads 0 1 ∷ idle ⇒ taken delivering byte 0 65 ∷ idle ⇒ taken ∷ []) ∷
     -- Where another queue is asked, too.
     slots paper tailOfFullQueues
     (both 0 69 1 ⇒ drops 5 0 (takenHeld 1 66) fills 3 and 0 marks 4 and 0 ∷ []) ∷
@@ -81,7 +82,7 @@ requestExamples =
     (arbiter some (byte 0 66) then takenHeld 0 66 asks some 0 last 0) ∷ []) ∷
     slots paper (made (sizes 3 2 1) phase 0 tail [] head [] cells (replicate 4 empty) blocks (0 ∷ 1 ∷ 0 ∷ []))
     ((arbiter none then taken asks some 1 last 1) ∷
-    (arbiter none then reads 1 asks some 1 last 1) ∷
+    (arbiter none then reads 1 3 asks some 1 last 1) ∷
     (arbiter none then taken asks none last 1) ∷ []) ∷
     -- Queue 0 was the last one asked: it waits for Q - 1 further slots, and its byte leaves Q - 1 + L slots later.
     slots paper (withLastAsked 0 oneByteEach)
@@ -100,7 +101,7 @@ requestExamples =
     -- "An arrival to a full queue does not count in the choice": all bytes of the queue are owed, and 5 comes, also
     -- where another queue is asked. A full queue is asked for its older bytes; the slot is then one of 2.1.
     slots paper allOwed
-    ((arbiter some (byte 0 67) then drops 5 0 (reads 0) delivering byte 0 65 asks none last 1) ∷ []) ∷
+    ((arbiter some (byte 0 67) then drops 5 0 (reads 0 1) delivering byte 0 65 asks none last 1) ∷ []) ∷
     chooses allOwed (some (byte 0 67)) none ∷
     slots paper oneByteEach
     ((arbiter some (byte 0 68) then takenHeld 0 65 asks some 0 last 0) ∷
@@ -131,13 +132,13 @@ requestExamples =
     -- 2.5, "5 and 7 refuse their half of the slot only. The slot runs without that half, and each half has its own
     -- answer": 5 alone, with a delivery and a read in the same slot; 7 alone, with an arrival that is taken.
     slots paper allOwed
-    (arrival 0 67 ⇒ drops 5 0 (reads 0) delivering byte 0 65 fills 0 and 2 marks 0 and 2 ∷ []) ∷
+    (arrival 0 67 ⇒ drops 5 0 (reads 0 1) delivering byte 0 65 fills 0 and 2 marks 0 and 2 ∷ []) ∷
     slots paper (fresh paper (sizes 2 2 1))
     (both 0 65 1 ⇒ drops 0 7 taken fills 1 and 0 marks 1 and 0 ∷ []) ∷
     -- "So both numbers may come together. A dropped half is absent for every later test, so 7 is judged without a
     -- dropped arrival": the queue is full, all its bytes are owed, and the arriving byte is none to take.
     slots paper allOwed
-    (both 0 67 0 ⇒ drops 5 7 (reads 0) delivering byte 0 65 ∷ []) ∷
+    (both 0 67 0 ⇒ drops 5 7 (reads 0 1) delivering byte 0 65 ∷ []) ∷
     -- 9 is not judged once the arrival is dropped: queue 0 is full, and so is the tail. With room in the queue 9 comes.
     slots paper tailOfFullQueues
     (arrival 0 69 ⇒ drops 5 0 taken fills 4 and 0 marks 4 and 0 ∷ []) ∷
@@ -156,7 +157,32 @@ requestExamples =
     -- A request that is dropped leaves an empty cell, so that nothing is read for it; one that was taken is read for in
     -- a slot of which both halves drop.
     slots paper (made (sizes 2 2 1) phase 1 tail [] head [] cells (replicate 3 empty) blocks (1 ∷ 0 ∷ []))
-    (both 0 67 1 ⇒ drops 5 7 taken ∷ request 0 ⇒ taken ∷ both 0 67 1 ⇒ drops 5 7 (reads 0) ∷ []) ∷
+    (both 0 67 1 ⇒ drops 5 7 taken ∷ request 0 ⇒ taken ∷ both 0 67 1 ⇒ drops 5 7 (reads 0 2) ∷ []) ∷
+    -- 2.6, "in how many slots the uncovered cell leaves, counted after the slot's own delivery, so 1 to L": the listing
+    -- of document 01, whose read is for the slot's own request, and so for a cell that leaves L slots later.
+    slots paper (fresh paper (sizes 1 2 2))
+    (both 0 65 0 ⇒ takenHeld 0 65 ∷ arrival 0 66 ⇒ taken ∷ request 0 ⇒ takenHeld 0 66 delivering byte 0 65 ∷
+    request 0 ⇒ drops 0 7 taken ∷ arrival 0 67 ⇒ taken delivering byte 0 66 ∷ arrival 0 68 ⇒ writes 0 ∷
+    idle ⇒ taken ∷ request 0 ⇒ reads 0 2 ∷ idle ⇒ taken ∷ idle ⇒ taken delivering byte 0 67 ∷ []) ∷
+    -- Q 2, b 3, so that L is 5, a block of each queue stored: the first cell that lacks its byte leaves in 4 slots, and
+    -- when the next one is read for in 2.
+    slots paper (made (sizes 2 3 1) phase 1 tail [] head [] cells (replicate 5 empty) blocks (1 ∷ 1 ∷ []))
+    (request 1 ⇒ taken ∷ request 0 ⇒ reads 1 4 ∷ idle ⇒ taken ∷ idle ⇒ taken ∷ idle ⇒ reads 0 2 ∷
+    idle ⇒ taken delivering byte 1 0 ∷ idle ⇒ taken delivering byte 0 0 ∷ []) ∷
+    -- A cell that its head byte covers is passed: the read is for the second of queue 0, which leaves two slots later.
+    slots paper (made (sizes 2 2 1) phase 1 tail [] head (byte 0 65 ∷ []) cells (held 1 66 ∷ owed 0 ∷ empty ∷ [])
+    blocks (1 ∷ 0 ∷ []))
+    (request 0 ⇒ reads 0 3 delivering byte 1 66 ∷ idle ⇒ taken delivering byte 0 65 ∷ idle ⇒ taken ∷
+    idle ⇒ taken delivering byte 0 0 ∷ []) ∷
+    -- With b 1 it is always 1: L is.
+    slots paper (fresh paper (sizes 3 1 1))
+    (arrival 2 65 ⇒ writes 2 ∷ request 2 ⇒ reads 2 1 ∷ idle ⇒ taken delivering byte 2 65 ∷ []) ∷
+    -- "And 0 where nothing is read": before the phase of the moves, and in a refused slot; and where each cell is
+    -- covered.
+    slots paper (made (sizes 1 2 1) phase 0 tail [] head [] cells (empty ∷ owed 0 ∷ []) blocks (1 ∷ []))
+    (idle ⇒ taken ∷ idle ⇒ misses 0 ∷ []) ∷
+    slots paper (made (sizes 1 2 1) phase 1 tail [] head (byte 0 65 ∷ []) cells (empty ∷ owed 0 ∷ []) blocks (0 ∷ []))
+    (idle ⇒ taken ∷ []) ∷
     -- 2.8, "the tail is looked at just after the arrival joins it": before the request takes the byte, and before it is
     -- written with its block. What was reached stays.
     slots paper (fresh paper (sizes 1 2 2))
@@ -167,14 +193,14 @@ requestExamples =
     arrival 0 67 ⇒ taken fills 1 and 0 marks 2 and 0 ∷ []) ∷
     -- "The head is looked at just after the read": the fills are 3, 2 and 4, and never 5.
     slots paper readDue
-    (idle ⇒ reads 1 delivering byte 0 65 fills 0 and 4 marks 0 and 4 ∷ []) ∷
+    (idle ⇒ reads 1 1 delivering byte 0 65 fills 0 and 4 marks 0 and 4 ∷ []) ∷
     -- "On a handed-in state the mark is the greater of the old one and the new fill."
     slots paper oneTailByte
     (arrival 0 66 ⇒ taken fills 2 and 0 marks 2 and 0 ∷ []) ∷
     slots paper (withTailMark 3 oneTailByte)
     (arrival 0 66 ⇒ taken fills 2 and 0 marks 3 and 0 ∷ []) ∷
     slots paper (withHeadMark 5 readDue)
-    (idle ⇒ reads 1 delivering byte 0 65 fills 0 and 4 marks 0 and 5 ∷ []) ∷
+    (idle ⇒ reads 1 1 delivering byte 0 65 fills 0 and 4 marks 0 and 5 ∷ []) ∷
     -- No arrival and no read change nothing, and neither does a refused slot.
     slots paper (withTailMark 2 (withHeadMark 3 oneTailByte))
     (idle ⇒ taken fills 1 and 0 marks 2 and 3 ∷

@@ -1,5 +1,5 @@
 -- Document 01, "One slot" and "What refusals hand back" (2 to 10): the five steps, the refusals, and the slot itself;
--- document 02, 2.1: which slots swap.
+-- document 02, 2.1: which slots swap; 2.5: what is left of a call; 2.6: slots left at a read.
 use mathlib.Core.Bool.{Bool, false, _&&_, not}
 use mathlib.Core.List.{List, [], _∷_, _++_}
 use mathlib.Core.Option.{Option, some, none}
@@ -148,6 +148,42 @@ refillQueue credits (owed q ∷ cells) =
 abbrev pub queueToRead : State → Option ℕ
 queueToRead x = choose (moves x) (refillQueue (headBytes x) (x .cells)) none
 
+-- Request 2.6: "The choice of the block to read must also say in how many slots the uncovered cell leaves, counted
+-- after the slot's own delivery": its place among the cells of the same scan, the oldest being 1, since a cell that is
+-- the oldest now leaves in the next slot. "0 where nothing is read": 0 is no place. A place, behind k more cells:
+abbrev pub placesOn : ℕ → ℕ → ℕ
+placesOn k zero = 0
+placesOn k (suc n) = suc n + k
+
+abbrev pub refillPlace : (ℕ → ℕ) → List Cell → ℕ
+refillPlace credits [] = 0
+refillPlace credits (empty ∷ cells) = placesOn 1 (refillPlace credits cells)
+refillPlace credits (held q v ∷ cells) = placesOn 1 (refillPlace credits cells)
+refillPlace credits (owed q ∷ cells) =
+    choose (eqb (credits q) 0)
+    1
+    (placesOn 1 (refillPlace (update credits q (credits q - 1)) cells))
+
+abbrev pub slotsToRefill : State → ℕ
+slotsToRefill x = choose (moves x) (refillPlace (headBytes x) (x .cells)) 0
+
+-- Queue and slots left as one choice, for the code that makes it: of a scan, and of a state.
+pub record Refill : Type 0 where
+  pub queue : Option ℕ
+  pub slotsLeft : ℕ
+
+abbrev pub refillBy : (ℕ → ℕ) → List Cell → Refill
+refillBy credits cells = record { queue = refillQueue credits cells; slotsLeft = refillPlace credits cells }
+
+abbrev pub noRefill : Refill
+noRefill = record { queue = none; slotsLeft = 0 }
+
+abbrev pub refillOf : State → Refill
+refillOf x = record { queue = queueToRead x; slotsLeft = slotsToRefill x }
+
+abbrev pub onward : ℕ → Refill → Refill
+onward k r = record { queue = r .queue; slotsLeft = placesOn k (r .slotsLeft) }
+
 -- "That queue's first block goes to the head." "A block that was read frees its place for writing."
 abbrev pub blockAt : Sizes → List ℕ → ℕ → ℕ → List ℕ
 blockAt s store q k = take (s .b) (drop (blockPlace s q k) store)
@@ -287,7 +323,7 @@ refusal design x store call = firstRefusal (refusals design x store call)
 
 -- What a slot tells: "An accepted slot answers 0 with the delivery, the queue written and the queue read, or none for
 -- each." And "each half has its own answer, so both numbers may come together": 5 or 0 for the arrival, 7 or 0 for the
--- request.
+-- request. At a read also in how many slots the cell leaves that it was for, "and 0 where nothing is read" (2.6).
 pub record Reply : Type 0 where
   pub number : ℕ
   pub arrivalNumber : ℕ
@@ -295,6 +331,7 @@ pub record Reply : Type 0 where
   pub delivered : Option Byte
   pub written : Option ℕ
   pub read : Option ℕ
+  pub slotsLeft : ℕ
 
 -- A number, and nothing else to tell.
 abbrev pub numberAlone : ℕ → Reply
@@ -305,6 +342,7 @@ numberAlone n = record {
   delivered = none;
   written = none;
   read = none;
+  slotsLeft = 0;
 }
 
 -- The state goes into a slot and is handed back by it, and so is the store.
@@ -323,6 +361,7 @@ carriedOut arrivalNumber requestNumber x store call = record {
     delivered = delivery x;
     written = queueToWrite (asked x call);
     read = queueToRead (wrote x call);
+    slotsLeft = slotsToRefill (wrote x call);
   };
   state = afterPhase (refilled x store call);
   store = wroteStore x store call;

@@ -61,13 +61,21 @@ abbrev phase_tail_head_cells_first_count_marks_and_ :
 phase p tail ts head hs cells cs first f count n marks t and h =
     stateFrom workedSizes p ts hs cs (ring f n ∷ ring 0 0 ∷ []) t h 1
 
--- A step: its number, what it took, what it delivered, wrote and read, the fills of the tail just after the arrival and
--- of the head just after the read; store and state as it ends.
-infix 70 number_took_and_delivered_wrote_read_fills_and_store_state_
-abbrev number_took_and_delivered_wrote_read_fills_and_store_state_ :
-    ℕ → Option Byte → Option ℕ → Option Byte → Option ℕ → Option ℕ → ℕ → ℕ → List ℕ → State → Step
-number n took ar and re delivered d wrote w read r fills t and h store st state s = record {
-  reply = record { number = n; arrivalNumber = 0; requestNumber = 0; delivered = d; written = w; read = r };
+-- A step: its number, what it took, what it delivered, wrote and read, the slots left at the read, the fills of the
+-- tail just after the arrival and of the head just after the read; store and state as it ends.
+infix 70 number_took_and_delivered_wrote_read_left_fills_and_store_state_
+abbrev number_took_and_delivered_wrote_read_left_fills_and_store_state_ :
+    ℕ → Option Byte → Option ℕ → Option Byte → Option ℕ → Option ℕ → ℕ → ℕ → ℕ → List ℕ → State → Step
+number n took ar and re delivered d wrote w read r left l fills t and h store st state s = record {
+  reply = record {
+    number = n;
+    arrivalNumber = 0;
+    requestNumber = 0;
+    delivered = d;
+    written = w;
+    read = r;
+    slotsLeft = l;
+  };
   arrival = ar;
   request = re;
   state = s;
@@ -79,32 +87,33 @@ number n took ar and re delivered d wrote w read r fills t and h store st state 
 abbrev workedSteps : List Step
 workedSteps =
     -- 0: a arrives.
-    number 0 took some a and none delivered none wrote none read none fills 1 and 0 store lent state
+    number 0 took some a and none delivered none wrote none read none left 0 fills 1 and 0 store lent state
     (phase 1 tail (a ∷ []) head [] cells (empty ∷ empty ∷ empty ∷ []) first 0 count 0 marks 1 and 0) ∷
     -- 1: b arrives and completes the block, which is written.
-    number 0 took some b and none delivered none wrote some 0 read none fills 2 and 0 store withBlock state
+    number 0 took some b and none delivered none wrote some 0 read none left 0 fills 2 and 0 store withBlock state
     (phase 0 tail [] head [] cells (empty ∷ empty ∷ empty ∷ []) first 0 count 1 marks 2 and 0) ∷
     -- 2: x arrives, and queue 0 is asked: its byte is in the store, so that the cell is Owed.
-    number 0 took some x and some 0 delivered none wrote none read none fills 1 and 0 store withBlock state
+    number 0 took some x and some 0 delivered none wrote none read none left 0 fills 1 and 0 store withBlock state
     (phase 1 tail (x ∷ []) head [] cells (empty ∷ empty ∷ owed 0 ∷ []) first 0 count 1 marks 2 and 0) ∷
-    -- 3: y arrives, and queue 1 is asked: x is in the tail and goes with its cell. The block is read.
-    number 0 took some y and some 1 delivered none wrote none read some 0 fills 2 and 2 store withBlock state
+    -- 3: y arrives, and queue 1 is asked: x is in the tail and goes with its cell. The block is read, for the next but
+    -- one to leave: in slot 5.
+    number 0 took some y and some 1 delivered none wrote none read some 0 left 2 fills 2 and 2 store withBlock state
     (phase 0 tail (y ∷ []) head (a ∷ b ∷ []) cells (empty ∷ owed 0 ∷ held 1 120 ∷ []) first 1 count 0 marks 2 and 2) ∷
     -- 4: queue 0 is asked.
-    number 0 took none and some 0 delivered none wrote none read none fills 1 and 2 store withBlock state
+    number 0 took none and some 0 delivered none wrote none read none left 0 fills 1 and 2 store withBlock state
     (phase 1 tail (y ∷ []) head (a ∷ b ∷ []) cells (owed 0 ∷ held 1 120 ∷ owed 0 ∷ []) first 1 count 0 marks 2 and 2) ∷
     -- A byte of queue 2 arrives, and there is none such. The slot did not happen: it took nothing, and a stays.
-    number 4 took none and none delivered none wrote none read none fills 1 and 2 store withBlock state
+    number 4 took none and none delivered none wrote none read none left 0 fills 1 and 2 store withBlock state
     (phase 1 tail (y ∷ []) head (a ∷ b ∷ []) cells (owed 0 ∷ held 1 120 ∷ owed 0 ∷ []) first 1 count 0 marks 2 and 2) ∷
     -- 5: queue 1 is asked, and a leaves.
-    number 0 took none and some 1 delivered some a wrote none read none fills 1 and 1 store withBlock state
+    number 0 took none and some 1 delivered some a wrote none read none left 0 fills 1 and 1 store withBlock state
     (phase 0 tail [] head (b ∷ []) cells (held 1 120 ∷ owed 0 ∷ held 1 121 ∷ []) first 1 count 0 marks 2 and 2) ∷
     -- 6, 7 and 8: x, b and y leave.
-    number 0 took none and none delivered some x wrote none read none fills 0 and 1 store withBlock state
+    number 0 took none and none delivered some x wrote none read none left 0 fills 0 and 1 store withBlock state
     (phase 1 tail [] head (b ∷ []) cells (owed 0 ∷ held 1 121 ∷ empty ∷ []) first 1 count 0 marks 2 and 2) ∷
-    number 0 took none and none delivered some b wrote none read none fills 0 and 0 store withBlock state
+    number 0 took none and none delivered some b wrote none read none left 0 fills 0 and 0 store withBlock state
     (phase 0 tail [] head [] cells (held 1 121 ∷ empty ∷ empty ∷ []) first 1 count 0 marks 2 and 2) ∷
-    number 0 took none and none delivered some y wrote none read none fills 0 and 0 store withBlock state
+    number 0 took none and none delivered some y wrote none read none left 0 fills 0 and 0 store withBlock state
     (phase 1 tail [] head [] cells (empty ∷ empty ∷ empty ∷ []) first 1 count 0 marks 2 and 2) ∷ []
 
 -- What the definitions give of these slots is what was worked by hand: the fresh state, each step, the state that the

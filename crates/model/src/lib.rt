@@ -8,6 +8,7 @@ ghost use Rattle.model.specs.Sizes.{Limits, Design};
 ghost use Rattle.model.specs.Demand.{Demand-3};
 ghost use Rattle.model.specs.Swap.{SwapSays};
 ghost use Rattle.model.specs.Halves.{HalvesSay, StopsLow};
+ghost use Rattle.model.specs.SlotsLeft.{SlotsLeftSay, LeavesThen};
 ghost use Rattle.model.specs.Fairness.{ArbiterSays, Fair};
 ghost use Rattle.model.specs.HighMarks.{MarksExact};
 ghost use Rattle.model.specs.Examples.{examples, holds};
@@ -33,6 +34,11 @@ pub fn round_robin_arbiter()
 // Request 2.5: a dropped half never came, in any design; over lists no slot is refused but with 6 or lower.
 pub fn line_does_not_wait()
     ensures { λ _. ⌜ ((design : Design) → HalvesSay design) × ((limits : Limits) → StopsLow limits) ⌝ }
+{}
+
+// Request 2.6: slots left are those of the cell that a read is for, in any design; over lists its byte leaves then.
+pub fn slots_left_at_a_read()
+    ensures { λ _. ⌜ ((design : Design) → SlotsLeftSay design) × ((limits : Limits) → LeavesThen limits) ⌝ }
 {}
 
 // Request 2.8, in any design: each high mark is exactly the greatest fill since the fresh state.

@@ -22,12 +22,20 @@ use Rattle.layout.specs.declared.Arrival.{Arrival}
 use Rattle.layout.specs.declared.Request.{Request}
 use Rattle.layout.specs.Views.{Arrays, stateIn}
 use Rattle.slot_in_place.specs.Says.{Ready, answerIn, AdvanceSays, AsGiven}
-use Rattle.run_words.specs.Words.{callOf, answerWord, nearByte, nearQueue}
+use Rattle.run_words.specs.Words.{answerSlots, callOf, answerWord, nearByte, nearQueue}
 use Rattle.run_words.proofs.Nearest.{read-slot}
+use Rattle.run_words.proofs.SlotsLeft.{slots-left-fit}
 use Rattle.slot_in_place.specs.declared.Advanced.{Advanced}
 use Rattle.run_in_place.specs.declared.Called.{Called}
 use Rattle.run_in_place.specs.Says.{wordOf, advancedIn, advancedTo, CalledSays, OneSlotSays}
 use Rattle.run_in_place.specs.Says.{OneCallSays, RunInPlaceSays}
+
+-- What a slot in place tells fits a word.
+pub word-fits : {x : State} {store : List ℕ} {call : Call} {r : Advanced} {m : Arrays} {counts : ByQueue}
+    {store′ : List ℕ}
+    → AdvanceSays x store call r m counts store′ → r .reply .«slots_left» < answerSlots
+word-fits {x} {store} {call} says =
+    omega (arith, ap (λ (a : Answer). a .reply .slotsLeft) (says .answer-is), slots-left-fit x store call)
 
 -- The run before call i.
 pub record RunTo (i : ℕ) (x : State) (store : List ℕ) (calls : List Call) (before after : List ℕ) (state : State)

@@ -3,3 +3,4 @@ pub mod Bits
 pub mod Calling
 pub mod Nearest
 pub mod RoundTrip
+pub mod SlotsLeft

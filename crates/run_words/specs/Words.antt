@@ -12,7 +12,7 @@
 --   41     1 where one is asked         29     1 where one was written
 --   42-    to be 0; not looked at yet   30-39  the queue read
 --                                       40     1 where one was read
---                                       41-53  0: for slots left
+--                                       41-53  slots left at the read, or 0
 --                                       54     1 where the arrival was dropped (5)
 --                                       55     1 where the request was dropped (7)
 --                                       56-63  the number that stopped the slot, or 0
@@ -27,6 +27,10 @@ callQueues = 65536
 
 abbrev pub answerQueues : ℕ
 answerQueues = 1024
+
+-- What slots left must be below: 2 to the number of its bits.
+abbrev pub answerSlots : ℕ
+answerSlots = 8192
 
 -- An answer's byte or none, as 19 bits: 262,144 + queue × 256 + value, or 0.
 abbrev pub byteWord : Option Byte → ℕ
@@ -63,13 +67,14 @@ abbrev pub droppedBit : ℕ → ℕ
 droppedBit zero = 0
 droppedBit (suc n) = 1
 
--- What a slot tells as a number: the number that stopped it, which halves it dropped, queue read, queue written, byte
--- delivered.
+-- What a slot tells as a number: the number that stopped it, which halves it dropped, slots left, queue read, queue
+-- written, byte delivered.
 unfoldable pub answerWord : Reply → ℕ
 answerWord r =
     r .number * 72057594037927936
     + droppedBit (r .requestNumber) * 36028797018963968
     + droppedBit (r .arrivalNumber) * 18014398509481984
+    + r .slotsLeft * 2199023255552
     + queueWord (r .read) * 1073741824
     + queueWord (r .written) * 524288
     + byteWord (r .delivered)
@@ -83,6 +88,9 @@ arrivalNumberOf a = a / 18014398509481984 % 2 * 5
 
 unfoldable pub requestNumberOf : ℕ → ℕ
 requestNumberOf a = a / 36028797018963968 % 2 * 7
+
+unfoldable pub slotsLeftOf : ℕ → ℕ
+slotsLeftOf a = a / 2199023255552 % answerSlots
 
 unfoldable pub deliveredOf : ℕ → Option Byte
 deliveredOf a = byteIn answerQueues a

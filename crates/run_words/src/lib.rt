@@ -5,7 +5,7 @@ ghost use Prim.Native.Nat.{_<_};
 ghost use Rattle.layout.specs.Calls.{chosenIn, arrivalIn, requestIn, deliveryIn, callIn, replyIn};
 ghost use Rattle.run_words.specs.Words.{callQueues, answerQueues, byteWord, queueWord, byteIn, queueIn, callOf};
 ghost use Rattle.run_words.specs.Words.{droppedBit, answerWord, numberOf, arrivalNumberOf, requestNumberOf};
-ghost use Rattle.run_words.specs.Words.{deliveredOf, writtenOf, readOf};
+ghost use Rattle.run_words.specs.Words.{answerSlots, slotsLeftOf, deliveredOf, writtenOf, readOf};
 ghost use Rattle.run_words.specs.Words.{nearest, nearByte, nearQueue};
 use layout::Arrival;
 use layout::Chosen;
@@ -100,9 +100,10 @@ fn dropped_bit(number: u8) -> u64
     1
 }
 
-// What a slot tells as one number: the number that stopped it or 0, which halves it dropped, the queue read, the queue
-// written and the byte delivered.
+// What a slot tells as one number: the number that stopped it or 0, which halves it dropped, the slots left at a read,
+// the queue read, the queue written and the byte delivered.
 pub fn answer_word(reply: Reply) -> u64
+    requires { ⌜ reply .«slots_left» < answerSlots ⌝ }
     ensures { λ r. ⌜ r ≡ answerWord (replyIn reply) ⌝ }
 {
     let delivery = reply.delivery;
@@ -111,6 +112,7 @@ pub fn answer_word(reply: Reply) -> u64
     (reply.number as u64) * 72057594037927936
         + dropped_bit(reply.request_number) * 36028797018963968
         + dropped_bit(reply.arrival_number) * 18014398509481984
+        + (reply.slots_left as u64) * 2199023255552
         + chosen_bits(read) * 1073741824
         + chosen_bits(written) * 524288
         + delivery_bits(delivery)
@@ -134,6 +136,13 @@ pub fn request_number_in(answer: u64) -> u8
     ensures { λ r. ⌜ r ≡ requestNumberOf answer ⌝ }
 {
     (answer / 36028797018963968 % 2 * 7) as u8
+}
+
+// The slots left that an answer tells at a read.
+pub fn slots_left_in(answer: u64) -> u16
+    ensures { λ r. ⌜ r ≡ slotsLeftOf answer ⌝ }
+{
+    (answer / 2199023255552 % 8192) as u16
 }
 
 // The byte that an answer delivers.

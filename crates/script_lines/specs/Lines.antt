@@ -1,13 +1,15 @@
--- Document 01, "Scripts": the lines that the program `slots` prints, and their text.
+-- Document 01, "Scripts", and document 02, 2.6: the lines that the program `slots` prints, and their text.
 use mathlib.Core.List.{List, [], _∷_, _++_}
 use Prim.Native.Nat.{ℕ, zero, suc, _+_, _/_, _%_}
 use lib.Dec.{ltb}
 use Rattle.model.specs.Basics.{choose}
 
 -- "`D t q v` (slot, queue, byte), `R t n` (slot about to run, refusal), last `E t` (slots accepted)"; "`S n offset`".
+-- Request 2.6: "`slots` prints a line `M t q n` for each read (slot, queue, slots left)".
 pub data Line : Type 0 where
   delivery : ℕ → ℕ → ℕ → Line
   refusal : ℕ → ℕ → Line
+  refill : ℕ → ℕ → ℕ → Line
   ending : ℕ → Line
   fault : ℕ → ℕ → Line
 
@@ -15,12 +17,14 @@ pub data Line : Type 0 where
 abbrev pub letter : Line → ℕ
 letter (delivery t q v) = 68
 letter (refusal t n) = 82
+letter (refill t q n) = 77
 letter (ending t) = 69
 letter (fault n offset) = 83
 
 abbrev pub numbers : Line → List ℕ
 numbers (delivery t q v) = t ∷ q ∷ v ∷ []
 numbers (refusal t n) = t ∷ n ∷ []
+numbers (refill t q n) = t ∷ q ∷ n ∷ []
 numbers (ending t) = t ∷ []
 numbers (fault n offset) = n ∷ offset ∷ []
 

@@ -3,7 +3,7 @@
 ghost use mathlib.Core.List.{[], _∷_};
 ghost use Prim.Native.Nat.{_+_, _≤_, _<_};
 ghost use lib.ListN.{length};
-ghost use Rattle.script_lines.specs.Lines.{delivery, refusal, ending, fault, spaced, lineText};
+ghost use Rattle.script_lines.specs.Lines.{delivery, refusal, refill, ending, fault, spaced, lineText};
 ghost use Rattle.script_lines.specs.Says.{PutSays};
 
 fn put_byte(output: &mut [u8], place: usize, byte: u8) -> usize
@@ -60,6 +60,19 @@ pub fn put_refusal(output: &mut [u8], place: usize, slot: u64, number: u8) -> us
     let behind_slot = put_number(output, behind_letter, slot);
     let behind_number = put_number(output, behind_slot, number as u64);
     put_byte(output, behind_number, b'\n')
+}
+
+// M: a slot read a block of a queue, for a cell that leaves in so many slots.
+pub fn put_refill(output: &mut [u8], place: usize, slot: u64, queue: u8, slots_left: u16) -> usize
+    requires { ⌜ place + length (lineText (refill slot queue «slots_left»)) ≤ length (now output) ⌝ }
+    ensures { λ r. ⌜ PutSays (lineText (refill slot queue «slots_left»)) place
+        (now (output .entry)) r (now (output .exit)) ⌝ }
+{
+    let behind_letter = put_byte(output, place, b'M');
+    let behind_slot = put_number(output, behind_letter, slot);
+    let behind_read = put_number(output, behind_slot, queue as u64);
+    let behind_left = put_number(output, behind_read, slots_left as u64);
+    put_byte(output, behind_left, b'\n')
 }
 
 // E: how many slots were accepted.

@@ -222,13 +222,13 @@ fn print_script(script: &[u8], store: &mut [u8], output: &mut [u8]) -> usize
     run_good(script, store, output)
 }
 
-// How much output `run_script` asks for a script of so many bytes: 10 bytes for each, up to 65,536 of them, and 11
+// How much output `run_script` asks for a script of so many bytes: 11 bytes for each, up to 65,536 of them, and 11
 // more. It goes by the length alone, whatever the script holds, and no script prints more (`text-fits`).
 pub fn output_asked(script_bytes: usize) -> usize
     ensures { λ r. ⌜ r ≡ outputBound «script_bytes» ⌝ }
 {
     let bytes = minmax::smaller(script_bytes, MOST_BYTES);
-    10 * bytes + 11
+    11 * bytes + 11
 }
 
 // What running a script answers: how many bytes it printed, or that the output is shorter than `output_asked`.

@@ -29,7 +29,8 @@ use Rattle.script_lines.specs.Lines.{Line, refusal, lineText, text}
 use Rattle.script_lines.specs.Says.{PutSays}
 use Rattle.script_lines.proofs.Placed.{put-nothing, put-then-put, put-keeps-length}
 use Rattle.script_lines.proofs.Pieces.{one-line}
-use Rattle.script_text.specs.Run.{deliveryLines, halfLines, runningLines, answerLines, countOn, slotLines}
+use Rattle.script_text.specs.Run.{deliveryLines, halfLines, refillLines, runningLines, answerLines, countOn}
+use Rattle.script_text.specs.Run.{slotLines}
 use Rattle.script_text.proofs.Append.{text-append, text-length-append, run-lines-append, run-count-append}
 use Rattle.script_text.proofs.Append.{quiet-prints-nothing, quiet-all-accepted}
 use Rattle.script_slots.specs.declared.Progress.{Progress}
@@ -115,7 +116,7 @@ module _ (t : ℕ) (reply : Reply) (place : ℕ) (output : List ℕ) where
       slots-is = same-count;
     }
 
-  -- A slot that ran: what it delivers, then its halves.
+  -- A slot that ran: what it delivers, then its halves, then its read.
   module _ (ran : reply .number ≡ 0) (fits : AnswerFits t reply place output) where
     abbrev delivers : List Line
     delivers = deliveryLines t (reply .delivered)
@@ -126,6 +127,16 @@ module _ (t : ℕ) (reply : Reply) (place : ℕ) (output : List ℕ) where
     abbrev requestLines : List Line
     requestLines = halfLines t (reply .requestNumber)
 
+    abbrev readLines : List Line
+    readLines = refillLines t (reply .read) (reply .slotsLeft)
+
+    -- What comes behind the arrival's line, and behind the delivery's.
+    abbrev fromRequest : List Line
+    fromRequest = requestLines ++ readLines
+
+    abbrev fromArrival : List Line
+    fromArrival = arrivalLines ++ fromRequest
+
     all-lines : answerLines t reply ≡ runningLines t reply
     all-lines = rw ran
 
@@ -133,28 +144,36 @@ module _ (t : ℕ) (reply : Reply) (place : ℕ) (output : List ℕ) where
     all-fit = omega (arith, fits .lines-fit, ap (λ (l : List Line). length (text l)) all-lines)
 
     pub delivery-fits : place + length (text delivers) ≤ length output
-    delivery-fits = first-fits delivers (arrivalLines ++ requestLines) place output all-fit
+    delivery-fits = first-fits delivers fromArrival place output all-fit
 
     module _ {p : ℕ} {output₁ : List ℕ} (delivered : PutSays (text delivers) place output p output₁) where
-      halves-fit : p + length (text (arrivalLines ++ requestLines)) ≤ length output₁
-      halves-fit = next-fits delivers (arrivalLines ++ requestLines) place output all-fit delivered
+      rest-fits : p + length (text fromArrival) ≤ length output₁
+      rest-fits = next-fits delivers fromArrival place output all-fit delivered
 
       pub arrival-fits : p + length (text arrivalLines) ≤ length output₁
-      arrival-fits = first-fits arrivalLines requestLines p output₁ halves-fit
+      arrival-fits = first-fits arrivalLines fromRequest p output₁ rest-fits
 
       module _ {q : ℕ} {output₂ : List ℕ} (arrived : PutSays (text arrivalLines) p output₁ q output₂) where
-        pub request-fits : q + length (text requestLines) ≤ length output₂
-        request-fits = next-fits arrivalLines requestLines p output₁ halves-fit arrived
+        two-fit : q + length (text fromRequest) ≤ length output₂
+        two-fit = next-fits arrivalLines fromRequest p output₁ rest-fits arrived
 
-        pub answers-halves : {r : ℕ} {output₃ : List ℕ} → PutSays (text requestLines) q output₂ r output₃
-            → AnswerSays t reply place output (put (t + 1) r) output₃
-        answers-halves {r} {output₃} asked = record {
-          lines-are =
-              subst (λ (l : List Line). PutSays (text l) place output r output₃) (sym all-lines)
-              (both-put delivers (arrivalLines ++ requestLines) place output all-fit delivered
-              (both-put arrivalLines requestLines p output₁ halves-fit arrived asked));
-          slots-is = let e : t + 1 ≡ suc t = omega arith in e ∙ ap (countOn t) (sym ran);
-        }
+        pub request-fits : q + length (text requestLines) ≤ length output₂
+        request-fits = first-fits requestLines readLines q output₂ two-fit
+
+        module _ {r : ℕ} {output₃ : List ℕ} (asked : PutSays (text requestLines) q output₂ r output₃) where
+          pub read-fits : r + length (text readLines) ≤ length output₃
+          read-fits = next-fits requestLines readLines q output₂ two-fit asked
+
+          pub answers-running : {s : ℕ} {output₄ : List ℕ} → PutSays (text readLines) r output₃ s output₄
+              → AnswerSays t reply place output (put (t + 1) s) output₄
+          answers-running {s} {output₄} read = record {
+            lines-are =
+                subst (λ (l : List Line). PutSays (text l) place output s output₄) (sym all-lines)
+                (both-put delivers fromArrival place output all-fit delivered
+                (both-put arrivalLines fromRequest p output₁ rest-fits arrived
+                (both-put requestLines readLines q output₂ two-fit asked read)));
+            slots-is = let e : t + 1 ≡ suc t = omega arith in e ∙ ap (countOn t) (sym ran);
+          }
 
 -- n idle slots are i of them and those left.
 pub idles-left : (n i : ℕ) → i ≤ n → idles n ≡ idles i ++ idles (n - i)

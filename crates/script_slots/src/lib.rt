@@ -4,17 +4,18 @@ ghost use mathlib.Core.List.{[], _∷_};
 ghost use Prim.Native.Nat.{_+_, _≤_};
 ghost use lib.ListN.{length};
 ghost use Rattle.model.specs.Calls.{idles};
-ghost use Rattle.layout.specs.Calls.{callIn, deliveryIn, replyIn};
+ghost use Rattle.layout.specs.Calls.{callIn, chosenIn, deliveryIn, replyIn};
 ghost use Rattle.layout.specs.Lent.{given, found, left, countsGiven, countsLeft};
 ghost use Rattle.layout.specs.Views.{stateIn};
 ghost use Rattle.slot_in_place.specs.Says.{Ready};
 ghost use Rattle.script_commands.specs.Values.{commandIn};
 ghost use Rattle.script_lines.specs.Lines.{text};
 ghost use Rattle.script_lines.specs.Says.{PutSays};
-ghost use Rattle.script_text.specs.Run.{slotsOf, deliveryLines, halfLines};
+ghost use Rattle.script_text.specs.Run.{slotsOf, deliveryLines, halfLines, refillLines};
 ghost use Rattle.script_slots.specs.Says.{AnswerFits, AnswerSays, RunsOn, Room, wantedIn};
 use layout::Arrival;
 use layout::CellArray;
+use layout::Chosen;
 use layout::CountArray;
 use layout::Delivery;
 use layout::HeadArray;
@@ -68,8 +69,20 @@ fn put_half(output: &mut [u8], place: usize, slots: u64, number: u8) -> usize
     script_lines::put_refusal(output, place, slots, number)
 }
 
-// The lines of one slot that tells this, and the count on: D before R, the arrival's R before the request's. A slot
-// that was stopped has its R alone.
+// M for a block that is read, with the slots left; without one nothing.
+fn put_refilled(output: &mut [u8], place: usize, slots: u64, read: Chosen, slots_left: u16) -> usize
+    requires { ⌜ place + length (text (refillLines slots (chosenIn read) «slots_left»)) ≤ length (now output) ⌝ }
+    ensures { λ r. ⌜ PutSays (text (refillLines slots (chosenIn read) «slots_left»)) place (now (output .entry)) r
+        (now (output .exit)) ⌝ }
+{
+    match read {
+        Chosen::Queue(queue) => script_lines::put_refill(output, place, slots, queue, slots_left),
+        Chosen::Nothing => place,
+    }
+}
+
+// The lines of one slot that tells this, and the count on: D before R, the arrival's R before the request's, M last.
+// A slot that was stopped has its R alone.
 fn put_answer(output: &mut [u8], place: usize, slots: u64, reply: Reply) -> AnswerPut
     requires { ⌜ AnswerFits slots (replyIn reply) place (now output) ⌝ }
     ensures { λ r. ⌜ AnswerSays slots (replyIn reply) place (now (output .entry)) r (now (output .exit)) ⌝ }
@@ -86,9 +99,11 @@ fn put_answer(output: &mut [u8], place: usize, slots: u64, reply: Reply) -> Answ
     let behind_delivery = put_delivered(output, place, slots, delivery);
     let behind_arrival = put_half(output, behind_delivery, slots, reply.arrival_number);
     let behind_request = put_half(output, behind_arrival, slots, reply.request_number);
+    let read = reply.read;
+    let behind_read = put_refilled(output, behind_request, slots, read, reply.slots_left);
     AnswerPut {
         slots: count,
-        place: behind_request,
+        place: behind_read,
     }
 }
 

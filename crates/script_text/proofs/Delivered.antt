@@ -15,29 +15,12 @@ use Rattle.model.specs.Slot.{asByte, arriving}
 use Rattle.model.specs.Lists.{Step, deliveries, arrivalsOf, requestsOf, requestAt, dueTo, dueAt, dueToAll}
 use Rattle.model.specs.Demand.{FixedDelay}
 use Rattle.model.proofs.basics.AllOf.{all-append}
+use Rattle.model.proofs.basics.Present.{one, present, present-take, present-behind-none}
 
 -- A property of what may be there.
 abbrev pub IfAny : {A : Type 0} → (A → Type 0) → Option A → Type 0
 IfAny P none = Unit {0}
 IfAny P (some y) = P y
-
--- How many are there.
-abbrev pub one : {A : Type 0} → Option A → ℕ
-one none = 0
-one (some y) = 1
-
-abbrev pub present : {A : Type 0} → List (Option A) → ℕ
-present [] = 0
-present (o ∷ os) = one o + present os
-
-present-take : {A : Type 0} (n : ℕ) (os : List (Option A)) → present (take n os) ≤ present os
-present-take zero os = omega arith
-present-take (suc n) [] = omega arith
-present-take (suc n) (o ∷ os) = omega (arith, present-take n os)
-
-present-behind-none : {A : Type 0} (n : ℕ) (os : List (Option A)) → present (replicate n none ++ os) ≡ present os
-present-behind-none zero os = refl
-present-behind-none (suc n) os = omega (arith, present-behind-none n os)
 
 all-take : {A : Type 0} (P : A → Type 0) (n : ℕ) (xs : List A) → All P xs → All P (take n xs)
 all-take P zero xs h = tt

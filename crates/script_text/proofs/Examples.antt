@@ -34,7 +34,8 @@ printedBytes row = ascii (row .printed)
 abbrev AsPrinted : List Example → Type 0
 AsPrinted rows = map prints rows ≡ map printedBytes rows
 
--- "Input (hex) .. prints": Q 1, b 2, K 2, so that 4 bytes of store are enough.
+-- "Input (hex) .. prints": Q 1, b 2, K 2, so that 4 bytes of store are enough. Request 2.6: "The listing gains
+-- `M 7 0 2` before its last D line."
 abbrev pub listing : Example
 listing =
     example
@@ -50,7 +51,7 @@ listing =
     0x04 ∷ 0x02 ∷ 0x00 ∷
     0x05 ∷ [])
     4
-    "D 2 0 65\nR 3 7\nD 4 0 66\nD 9 0 67\nE 10\n"
+    "D 2 0 65\nR 3 7\nD 4 0 66\nM 7 0 2\nD 9 0 67\nE 10\n"
 
 listing-prints : AsPrinted (listing ∷ [])
 unfolding scriptLines judge judgeFrom decimal lineText
@@ -62,7 +63,8 @@ unfolding scriptStore judge judgeFrom
 listing-leaves = refl
 
 -- Request 2.1: a full queue that is read and refilled in one slot; and, a case of request 2.5, the same without the
--- first idle slot, where the block is in store: the arrival is dropped with 5, and the request runs.
+-- first idle slot, where the block is in store: the arrival is dropped with 5, and the request runs. The first of four
+-- idle slots then reads the block, whose byte leaves in the next.
 abbrev swapScriptAfter : List ℕ → List ℕ
 swapScriptAfter first =
     0x10 ∷ 0x01 ∷ 0x02 ∷ 0x01 ∷ first
@@ -71,7 +73,7 @@ swapScriptAfter first =
 abbrev swapScripts : List Example
 swapScripts =
     example (swapScriptAfter (0x00 ∷ [])) 2 "D 5 0 65\nE 8\n" ∷
-    example (swapScriptAfter []) 2 "R 2 5\nD 4 0 65\nE 7\n" ∷ []
+    example (swapScriptAfter []) 2 "R 2 5\nM 3 0 1\nD 4 0 65\nE 7\n" ∷ []
 
 swap-scripts-print : AsPrinted swapScripts
 unfolding scriptLines judge judgeFrom decimal lineText
@@ -83,7 +85,8 @@ unfolding scriptStore judge judgeFrom
 swap-leaves = refl
 
 -- Request 2.5, "each half has its own answer, so both numbers may come together": a stop is the only answer of a slot
--- whose arrival would be dropped too; and slots that deliver and print 5, 7 or both behind it.
+-- whose arrival would be dropped too; and slots that deliver and print 5, 7 or both behind it. Request 2.6: "after that
+-- slot's D and R lines": slot 9 reads, too.
 abbrev halfScripts : List Example
 halfScripts =
     example
@@ -105,11 +108,41 @@ halfScripts =
     0x02 ∷ 0x01 ∷
     0x05 ∷ [])
     4
-    "R 5 5\nD 9 0 66\nR 9 5\nR 9 7\nD 10 1 67\nR 10 7\nE 11\n" ∷ []
+    "R 5 5\nM 7 0 2\nD 9 0 66\nR 9 5\nR 9 7\nM 9 1 1\nD 10 1 67\nR 10 7\nE 11\n" ∷ []
 
 half-scripts-print : AsPrinted halfScripts
 unfolding scriptLines judge judgeFrom decimal lineText
 half-scripts-print = refl
+
+-- Request 2.6, "a line `M t q n` for each read (slot, queue, slots left)": Q 1, b 2, where the read is for the slot's
+-- own request, which leaves L slots later; and Q 1, b 3, where it is in the second of five idle slots that are one
+-- command, and the byte in the third.
+abbrev refillScripts : List Example
+refillScripts =
+    example
+    (0x10 ∷ 0x01 ∷ 0x02 ∷ 0x01 ∷
+    0x01 ∷ 0x00 ∷ 0x41 ∷
+    0x01 ∷ 0x00 ∷ 0x42 ∷
+    0x00 ∷
+    0x02 ∷ 0x00 ∷
+    0x04 ∷ 0x02 ∷ 0x00 ∷
+    0x05 ∷ [])
+    2
+    "M 3 0 2\nD 5 0 65\nE 6\n" ∷
+    example
+    (0x10 ∷ 0x01 ∷ 0x03 ∷ 0x01 ∷
+    0x01 ∷ 0x00 ∷ 0x41 ∷
+    0x01 ∷ 0x00 ∷ 0x42 ∷
+    0x01 ∷ 0x00 ∷ 0x43 ∷
+    0x02 ∷ 0x00 ∷
+    0x04 ∷ 0x05 ∷ 0x00 ∷
+    0x05 ∷ [])
+    3
+    "M 5 0 1\nD 6 0 65\nE 9\n" ∷ []
+
+refill-scripts-print : AsPrinted refillScripts
+unfolding scriptLines judge judgeFrom decimal lineText
+refill-scripts-print = refl
 
 -- "A script refusal prints only S n offset": an unknown command, operands cut short, a first command other than sizes,
 -- sizes again, bytes that run out where a command is due, bytes that follow the end. "At a command byte 12 comes before
@@ -199,7 +232,7 @@ unfolding scriptLines judge judgeFrom decimal lineText
 counts-print = refl
 
 -- Q 3, b 1, K 2, and operands that tell their places: a byte of queue 0 arrives while queue 2 is asked, each of which
--- then delivers its own; queue 3 is unknown; queue 1 is full after two blocks.
+-- then is read and delivers its own; queue 3 is unknown; queue 1 is full after two blocks.
 abbrev operandPlaces : List Example
 operandPlaces =
     example
@@ -215,7 +248,7 @@ operandPlaces =
     0x01 ∷ 0x01 ∷ 0x46 ∷
     0x05 ∷ [])
     6
-    "D 2 2 66\nD 4 0 65\nR 5 4\nR 7 5\nE 8\n" ∷ []
+    "M 1 2 1\nD 2 2 66\nM 3 0 1\nD 4 0 65\nR 5 4\nR 7 5\nE 8\n" ∷ []
 
 operand-places-print : AsPrinted operandPlaces
 unfolding scriptLines judge judgeFrom decimal lineText

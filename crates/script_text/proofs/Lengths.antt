@@ -1,12 +1,13 @@
--- How long a line is: its letter, its newline, and for each number a space and its digits. So a line that a slot prints
--- has at most 20 bytes, as slot numbers have at most 10 digits, queues and refusals 2, bytes 3.
+-- How long a line is: its letter, its newline, and for each number a space and its digits. So of the lines that a slot
+-- prints D and R have at most 20 bytes and M has 21, as slot numbers have at most 10 digits, queues and refusals 2,
+-- bytes 3, slots left 4.
 use mathlib.Core.Path.{_≡_, refl, ap}
 use mathlib.Core.List.{List, [], _∷_}
 use Prim.Native.Nat.{ℕ, _+_, _≤_, _<_}
 use native.Mathlib.Omega.{arith}
 use lib.ListN.{length, length-append}
-use Rattle.script_lines.specs.Lines.{Line, delivery, refusal, ending, fault, numbers, decimal, numbersText, lineText}
-use Rattle.script_lines.specs.Lines.{text}
+use Rattle.script_lines.specs.Lines.{Line, delivery, refusal, refill, ending, fault, numbers, decimal, numbersText}
+use Rattle.script_lines.specs.Lines.{lineText, text}
 use Rattle.script_lines.proofs.Decimal.{decimal-length}
 use Rattle.script_lines.proofs.Pieces.{one-line}
 
@@ -39,6 +40,10 @@ delivery-length t q v ht hq hv =
 
 pub refusal-length : (t n : ℕ) → t < mostSlots → n < 100 → length (lineText (refusal t n)) ≤ 20
 refusal-length t n ht hn = omega (arith, line-length (refusal t n), slot-digits t ht, two-digits n hn)
+
+pub refill-length : (t q n : ℕ) → t < mostSlots → q < 100 → n < 10_000 → length (lineText (refill t q n)) ≤ 21
+refill-length t q n ht hq hn =
+    omega (arith, line-length (refill t q n), slot-digits t ht, two-digits q hq, decimal-length 4 n (omega arith) hn)
 
 pub ending-length : (t : ℕ) → t < mostSlots → length (lineText (ending t)) ≤ 13
 ending-length t ht = omega (arith, line-length (ending t), slot-digits t ht)

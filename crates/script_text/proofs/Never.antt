@@ -19,10 +19,10 @@ use Rattle.model.proofs.basics.AllOf.{all-append}
 use Rattle.model.proofs.Demand.{every-list}
 use Rattle.script_commands.specs.Commands as of
 use Rattle.script_commands.specs.Scripts.{Script, judge}
-use Rattle.script_lines.specs.Lines.{Line, delivery, refusal, ending, fault}
-use Rattle.script_text.specs.Run.{mostBytes, slotsOfAll, sizesOf, deliveryLines, halfLines, runningLines}
-use Rattle.script_text.specs.Run.{answerLines, countOn, slotLines, startNumber, scriptSteps, startedLines}
-use Rattle.script_text.specs.Run.{judgedLines, scriptLines}
+use Rattle.script_lines.specs.Lines.{Line, delivery, refusal, refill, ending, fault}
+use Rattle.script_text.specs.Run.{mostBytes, slotsOfAll, sizesOf, deliveryLines, halfLines, refillLines}
+use Rattle.script_text.specs.Run.{runningLines, answerLines, countOn, slotLines, startNumber, scriptSteps}
+use Rattle.script_text.specs.Run.{startedLines, judgedLines, scriptLines}
 use Rattle.script_text.proofs.HalfNumbers.{ZeroOr, is-zero, is-it, HalfNumbers, run-halves}
 use Rattle.script_text.proofs.Bound.{start-low, sizes-accepted}
 
@@ -37,6 +37,7 @@ pub record NoneOfThese (line : Line) : Type 0 where
 abbrev refusedWith : Line → ℕ
 refusedWith (delivery t q v) = 0
 refusedWith (refusal t n) = n
+refusedWith (refill t q n) = 0
 refusedWith (ending t) = 0
 refusedWith (fault n offset) = 0
 
@@ -74,13 +75,20 @@ request-lines : (t : ℕ) {n : ℕ} → ZeroOr 7 n → All NoneOfThese (halfLine
 request-lines t is-zero = tt
 request-lines t is-it = (middle-number (refusal t 7) (omega arith) (omega arith), tt)
 
+refill-lines : (t : ℕ) (read : Option ℕ) (n : ℕ) → All NoneOfThese (refillLines t read n)
+refill-lines t none n = tt
+refill-lines t (some q) n = (low-number (refill t q n) (omega arith), tt)
+
 running-lines : (t : ℕ) (r : Reply) → HalfNumbers r → All NoneOfThese (runningLines t r)
 running-lines t r halves =
     all-append NoneOfThese (deliveryLines t (r .delivered))
-    (halfLines t (r .arrivalNumber) ++ halfLines t (r .requestNumber))
+    (halfLines t (r .arrivalNumber) ++ (halfLines t (r .requestNumber) ++ refillLines t (r .read) (r .slotsLeft)))
     (delivery-lines t (r .delivered))
-    (all-append NoneOfThese (halfLines t (r .arrivalNumber)) (halfLines t (r .requestNumber))
-    (arrival-lines t (halves .arrival-5)) (request-lines t (halves .request-7)))
+    (all-append NoneOfThese (halfLines t (r .arrivalNumber))
+    (halfLines t (r .requestNumber) ++ refillLines t (r .read) (r .slotsLeft))
+    (arrival-lines t (halves .arrival-5))
+    (all-append NoneOfThese (halfLines t (r .requestNumber)) (refillLines t (r .read) (r .slotsLeft))
+    (request-lines t (halves .request-7)) (refill-lines t (r .read) (r .slotsLeft))))
 
 answer-lines : (t : ℕ) (r : Reply) → HalfNumbers r → (r .number ≡ 3 → ⊥) → (r .number ≡ 8 → ⊥)
     → (r .number ≡ 9 → ⊥) → (r .number ≡ 10 → ⊥) → All NoneOfThese (answerLines t r)

@@ -1,6 +1,6 @@
 -- What the program needs for the text of an input of any length (`programText`). It need not read on behind 65,537
 -- bytes (`program-reads-enough`): an input that goes so far is over 65,536 bytes and prints S 15 65536, whatever
--- follows. And 655,371 bytes of output are enough for any input (`output-enough`).
+-- follows. And 720,907 bytes of output are enough for any input (`output-enough`).
 use mathlib.Core.Path.{_≡_, refl, ap, sym, _∙_}
 use mathlib.Core.Bool.{Bool}
 use mathlib.Core.List.{List, [], _∷_}
@@ -38,9 +38,9 @@ unfolding programText
 program-reads-enough bytes =
     ap text (longer-input-prints-alike 65_537 bytes (replicate storeLent 0) (omega arith))
 
--- The bound is 655,371 at 65,536 bytes and does not rise above it.
-most-output : outputBound 65_536 ≡ 655_371
+-- The bound is 720,907 at 65,536 bytes and does not rise above it.
+most-output : outputBound 65_536 ≡ 720_907
 most-output = refl
 
-pub output-enough : (n : ℕ) → outputBound n ≤ 655_371
+pub output-enough : (n : ℕ) → outputBound n ≤ 720_907
 output-enough n = omega arith

@@ -1,7 +1,7 @@
--- The refusals that slots tell and the requests that they take are together at most the halves of the calls
--- (`run-pays`). An arrival pays for its 5, a request for its 7 or for being taken. A slot that is stopped tells one
--- refusal and takes nothing, and it has a half to pay with: an idle one could only be stopped with 2, 3, 8 or 10. And
--- what a slot answers and takes lies in its range (`run-says`).
+-- The refusals that slots tell, the requests and the arrivals that they take are together at most the halves of the
+-- calls (`run-pays`). An arrival pays for its 5 or for being taken, a request for its 7 or for being taken. A slot that
+-- is stopped tells one refusal and takes nothing, and it has a half to pay with: an idle one could only be stopped with
+-- 2, 3, 8 or 10. And what a slot answers and takes lies in its range (`run-says`).
 use mathlib.Core.Path.{_≡_, refl, ap, sym, _∙_, subst}
 use mathlib.Core.Bool.{Bool, true, false, not}
 use mathlib.Core.List.{List, [], _∷_}
@@ -13,16 +13,20 @@ use lib.ListN.{length}
 use Rattle.model.specs.Basics.{choose, All, when}
 use Rattle.model.specs.Sizes.{Sizes, Design, storeBytes}
 use Rattle.model.specs.State.{Byte, State, keeps}
-use Rattle.model.specs.Slot.{Call, oldestCell, wrote, queueToRead, arrivalUnknown, arrivalFull, requestUnknown}
-use Rattle.model.specs.Slot.{nothingToTake, leavesUncovered, tailFull, headFull, arrivalTaken, requestDrops}
-use Rattle.model.specs.Slot.{halvesTaken, refusals, refusal, Reply, Answer, slot}
+use Rattle.model.specs.Slot.{Call, oldestCell, wrote, queueToRead, slotsToRefill, arrivalUnknown, arrivalFull}
+use Rattle.model.specs.Slot.{requestUnknown, nothingToTake, leavesUncovered, tailFull, headFull, arrivalTaken}
+use Rattle.model.specs.Slot.{requestDrops, halvesTaken, refusals, refusal, Reply, Answer, slot}
 use Rattle.model.specs.Lists.{Step, stepOf, run, accepted}
 use Rattle.model.proofs.basics.AllOf.{_also_}
 use Rattle.model.proofs.basics.Tests.{by-option, by-test, true-not-false}
 use Rattle.model.proofs.basics.FirstRefusal.{first-has, when-le}
-use Rattle.model.proofs.one_slot.Accepted.{RefusedOrAccepted, was-refused, was-accepted, outcome}
+use Rattle.model.proofs.basics.Present.{one, present}
+use Rattle.model.proofs.meaning.Place.{slots-to-refill-within}
+use Rattle.model.proofs.one_slot.Accepted.{Accepted, RefusedOrAccepted, was-refused, was-accepted, outcome}
+use Rattle.model.proofs.one_slot.Kept.{read-taken, rules-written}
+use Rattle.model.proofs.one_slot.Stored.{arrivals}
 use Rattle.script_text.proofs.Append.{refused-test}
-use Rattle.script_text.proofs.Delivered.{IfAny, one, requested, TakesSmall}
+use Rattle.script_text.proofs.Delivered.{IfAny, requested, TakesSmall}
 
 -- The halves of a call, its arrival and its request; of a list of calls.
 abbrev pub halves : Call → ℕ
@@ -109,10 +113,20 @@ pub record NumbersLow (r : Reply) : Type 0 where
   pub arrival-low : r .arrivalNumber ≤ 10
   pub request-low : r .requestNumber ≤ 10
 
--- What holds of each slot, whether it is refused or accepted: low numbers, what it took in its range, the same sizes.
-record SlotCharged (values : ℕ) (x : State) (step : Step) : Type 0 where
-  numbers : NumbersLow (step .reply)
-  takes : TakesSmall (x .sizes .Q) values step
+-- What a slot tells of its read: a queue below a bound, and no more slots left than there are cells.
+pub record ReadSmall (queues cells : ℕ) (r : Reply) : Type 0 where
+  pub queue-below : IfAny (λ (q : ℕ). q < queues) (r .read)
+  pub left-within : r .slotsLeft ≤ cells
+
+-- What a slot answers and takes, in its range.
+pub record InRange (queues values cells : ℕ) (step : Step) : Type 0 where
+  pub numbers : NumbersLow (step .reply)
+  pub takes : TakesSmall queues values step
+  pub reads : ReadSmall queues cells (step .reply)
+
+-- What holds of each slot, whether it is refused or accepted: all in its range, the same sizes.
+record SlotCharged (design : Design) (values : ℕ) (x : State) (step : Step) : Type 0 where
+  in-range : InRange (x .sizes .Q) values (design .cellCount (x .sizes)) step
   sizes-stay : step .state .sizes ≡ x .sizes
 
 if-any : {A : Type 0} (P : A → Type 0) (o : Option A) → ((y : A) → o ≡ some y → P y) → IfAny P o
@@ -128,82 +142,97 @@ left-below values x call h = by-test (arrivalFull x (call .arrival) (call .reque
     (λ t. rw t tt)
     (λ t. rw t h)
 
-slot-says : (design : Design) (values : ℕ) (x : State) (store : List ℕ) (call : Call) (a : Answer)
-    → RefusedOrAccepted design x store call a → ArrivalBelow values call → SlotCharged values x (stepOf x store call a)
-slot-says design values x store call a (was-refused n e) h = record {
-  numbers = record {
-    number-low = omega (arith, e, number-says design x store call .low);
-    arrival-low = omega arith;
-    request-low = omega arith;
-  };
-  takes = record { queue-below = tt; value-below = tt };
-  sizes-stay = refl;
-}
-slot-says design values x store call a (was-accepted f) h = record {
-  numbers = record {
-    number-low = omega arith;
-    arrival-low = when-le 10 (arrivalFull x (call .arrival) (call .request)) 5 (omega arith);
-    request-low = when-le 10 (requestDrops x call) 7 (omega arith);
-  };
-  takes = record {
-    queue-below = if-any (λ (q : ℕ). q < x .sizes .Q) (halvesTaken x call .request) (f .judged .request-ok);
-    value-below = left-below values x call h;
-  };
-  sizes-stay = refl;
-}
-
-pub run-says : (design : Design) (values : ℕ) (s : Sizes) (x : State) (store : List ℕ) (calls : List Call)
-    → x .sizes ≡ s → All (ArrivalBelow values) calls
-    → All (λ (step : Step). NumbersLow (step .reply) × TakesSmall (s .Q) values step) (run design x store calls)
-run-says design values s x store [] e h = tt
-run-says design values s x store (call ∷ calls) e h =
-    let says = slot-says design values x store call (slot design x store call) (outcome design x store call) (h .0) in (
-      (
-        says .numbers,
-        subst (λ (z : Sizes). TakesSmall (z .Q) values (stepOf x store call (slot design x store call))) e
-            (says .takes),
-      ),
-      run-says design values s (slot design x store call .state) (slot design x store call .store) calls
-          (says .sizes-stay ∙ e) (h .1),
+-- The read of an accepted slot, as its rules have it when the write is done: its queue owes, and its cell is one of
+-- those there.
+read-says : (design : Design) (x : State) (store : List ℕ) (call : Call) → 1 ≤ design .cellCount (x .sizes)
+    → Accepted design x store call
+    → IfAny (λ (q : ℕ). q < x .sizes .Q) (queueToRead (wrote x call))
+    × (slotsToRefill (wrote x call) ≤ design .cellCount (x .sizes))
+read-says design x store call cells-ok f =
+    let rules = rules-written design x store call cells-ok (f .judged) in (
+      if-any (λ (q : ℕ). q < x .sizes .Q) (queueToRead (wrote x call))
+          (λ q e. read-taken (design .cellCount (x .sizes)) (wrote x call) rules q e .0),
+      omega (arith, slots-to-refill-within (wrote x call), rules .cells-long),
     )
 
--- A half pays for its own line: the arrival for 5, the request for 7, or for being taken.
-told-once : (n : ℕ) → told n ≤ 1
-told-once zero = omega arith
-told-once (suc n) = omega arith
+slot-says : (design : Design) (values : ℕ) (x : State) (store : List ℕ) (call : Call) (a : Answer)
+    → 1 ≤ design .cellCount (x .sizes) → RefusedOrAccepted design x store call a → ArrivalBelow values call
+    → SlotCharged design values x (stepOf x store call a)
+slot-says design values x store call a cells-ok (was-refused n e) h = record {
+  in-range = record {
+    numbers = record {
+      number-low = omega (arith, e, number-says design x store call .low);
+      arrival-low = omega arith;
+      request-low = omega arith;
+    };
+    takes = record { queue-below = tt; value-below = tt };
+    reads = record { queue-below = tt; left-within = omega arith };
+  };
+  sizes-stay = refl;
+}
+slot-says design values x store call a cells-ok (was-accepted f) h =
+    let read = read-says design x store (halvesTaken x call) cells-ok f in record {
+      in-range = record {
+        numbers = record {
+          number-low = omega arith;
+          arrival-low = when-le 10 (arrivalFull x (call .arrival) (call .request)) 5 (omega arith);
+          request-low = when-le 10 (requestDrops x call) 7 (omega arith);
+        };
+        takes = record {
+          queue-below = if-any (λ (q : ℕ). q < x .sizes .Q) (halvesTaken x call .request) (f .judged .request-ok);
+          value-below = left-below values x call h;
+        };
+        reads = record { queue-below = read .0; left-within = read .1 };
+      };
+      sizes-stay = refl;
+    }
 
-arrival-pays : (x : State) (arrival : Option Byte) (request : Option ℕ)
-    → told (when (arrivalFull x arrival request) 5) ≤ one arrival
-arrival-pays x none request = omega arith
-arrival-pays x (some y) request = told-once (when (arrivalFull x (some y) request) 5)
+pub run-says : (design : Design) (values : ℕ) (s : Sizes) (x : State) (store : List ℕ) (calls : List Call)
+    → 1 ≤ design .cellCount s → x .sizes ≡ s → All (ArrivalBelow values) calls
+    → All (InRange (s .Q) values (design .cellCount s)) (run design x store calls)
+run-says design values s x store [] cells-ok e h = tt
+run-says design values s x store (call ∷ calls) cells-ok e h =
+    let here : 1 ≤ design .cellCount (x .sizes) = subst (λ (z : Sizes). 1 ≤ design .cellCount z) (sym e) cells-ok in
+    let a : Answer = slot design x store call in
+    let says = slot-says design values x store call a here (outcome design x store call) (h .0) in (
+      subst (λ (z : Sizes). InRange (z .Q) values (design .cellCount z) (stepOf x store call a)) e (says .in-range),
+      run-says design values s (a .state) (a .store) calls cells-ok (says .sizes-stay ∙ e) (h .1),
+    )
 
-request-pays : (x : State) (arrival : Option Byte) (request : Option ℕ)
-    → told (when (nothingToTake x arrival request) 7) + one (choose (nothingToTake x arrival request) none request)
-    ≤ one request
-request-pays x arrival none = omega arith
-request-pays x arrival (some q) = by-drop (nothingToTake x arrival (some q))
+-- A half pays for its own line or for being taken: it is dropped with a number where a test holds, and else taken.
+half-pays : {A : Type 0} (dropped : Option A → Bool) (n : ℕ) → dropped none ≡ false → (half : Option A)
+    → told (when (dropped half) n) + one (choose (dropped half) none half) ≤ one half
+half-pays dropped n e none = rw e (omega arith)
+half-pays dropped n e (some y) = by-drop (dropped (some y))
   where
-    by-drop : (t : Bool) → told (when t 7) + one (choose t none (some q)) ≤ 1
-    by-drop true = omega arith
+    told-once : (m : ℕ) → told m ≤ 1
+    told-once zero = omega arith
+    told-once (suc m) = omega arith
+
+    by-drop : (t : Bool) → told (when t n) + one (choose t none (some y)) ≤ 1
+    by-drop true = omega (arith, told-once n)
     by-drop false = omega arith
+
+-- What the halves of calls pay for: the refusals told, the requests and the arrivals taken.
+abbrev pub chargesOf : List Step → ℕ
+chargesOf steps = toldOf steps + (requested (accepted steps) + present (arrivals (accepted steps)))
 
 slot-pays : (design : Design) (x : State) (store : List ℕ) (call : Call) (a : Answer)
     → RefusedOrAccepted design x store call a
     → NoneOfIdle (a .reply .number) → (steps : List Step)
-    → toldOf (stepOf x store call a ∷ steps) + requested (accepted (stepOf x store call a ∷ steps))
-    ≤ halves call + (toldOf steps + requested (accepted steps))
+    → chargesOf (stepOf x store call a ∷ steps) ≤ halves call + chargesOf steps
 slot-pays design x store call a (was-refused n e) other steps =
     rw (refused-test n) (omega (arith, stopped-has-half design x store call n e other))
 slot-pays design x store call a (was-accepted f) other steps =
     omega (
       arith,
-      arrival-pays x (call .arrival) (call .request),
-      request-pays x (arrivalTaken x call) (call .request),
+      half-pays (λ (arrival : Option Byte). arrivalFull x arrival (call .request)) 5 refl (call .arrival),
+      half-pays (nothingToTake x (arrivalTaken x call)) 7 refl (call .request),
     )
 
 pub run-pays : (design : Design) (x : State) (store : List ℕ) (calls : List Call)
     → All (λ (step : Step). NoneOfIdle (step .reply .number)) (run design x store calls)
-    → toldOf (run design x store calls) + requested (accepted (run design x store calls)) ≤ halvesOf calls
+    → chargesOf (run design x store calls) ≤ halvesOf calls
 run-pays design x store [] h = omega arith
 run-pays design x store (call ∷ calls) h =
     omega (

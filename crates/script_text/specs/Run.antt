@@ -1,5 +1,5 @@
--- Document 01, "Scripts", and document 02, 2.5: what a script does, as the lines that it prints and the store that it
--- leaves.
+-- Document 01, "Scripts", and document 02, 2.5 and 2.6: what a script does, as the lines that it prints and the store
+-- that it leaves.
 use mathlib.Core.List.{List, [], _∷_, _++_}
 use mathlib.Core.Option.{Option, some, none}
 use Prim.Native.Nat.{ℕ, zero, suc, _+_, _*_, min}
@@ -13,7 +13,7 @@ use Rattle.model.specs.Calls.{idles}
 use Rattle.model.specs.Lists.{Step, lastStore, listOf, accepted}
 use Rattle.script_commands.specs.Commands as of
 use Rattle.script_commands.specs.Scripts.{Script, judge}
-use Rattle.script_lines.specs.Lines.{Line, delivery, refusal, ending, fault, text}
+use Rattle.script_lines.specs.Lines.{Line, delivery, refusal, refill, ending, fault, text}
 
 -- "reads a script of at most 65,536 bytes"
 abbrev pub mostBytes : ℕ
@@ -56,10 +56,17 @@ abbrev pub halfLines : ℕ → ℕ → List Line
 halfLines t zero = []
 halfLines t (suc n) = refusal t (suc n) ∷ []
 
--- The lines of a slot that runs: "A slot's D line comes before its R lines, 5 before 7."
+-- Request 2.6: "`slots` prints a line `M t q n` for each read (slot, queue, slots left)".
+abbrev pub refillLines : ℕ → Option ℕ → ℕ → List Line
+refillLines t none n = []
+refillLines t (some q) n = refill t q n ∷ []
+
+-- The lines of a slot that runs: "A slot's D line comes before its R lines, 5 before 7"; the M line "after that slot's
+-- D and R lines".
 abbrev pub runningLines : ℕ → Reply → List Line
 runningLines t r =
-    deliveryLines t (r .delivered) ++ (halfLines t (r .arrivalNumber) ++ halfLines t (r .requestNumber))
+    deliveryLines t (r .delivered)
+    ++ (halfLines t (r .arrivalNumber) ++ (halfLines t (r .requestNumber) ++ refillLines t (r .read) (r .slotsLeft)))
 
 -- The lines of one slot. A refusal that stops the slot "is then its only answer".
 abbrev pub answerLines : ℕ → Reply → List Line
@@ -128,4 +135,4 @@ programText bytes = text (scriptLines bytes (replicate storeLent 0))
 
 -- How much output a script of n bytes can need (`text-fits`, proofs/Bound.antt).
 abbrev pub outputBound : ℕ → ℕ
-outputBound n = 10 * min n mostBytes + 11
+outputBound n = 11 * min n mostBytes + 11

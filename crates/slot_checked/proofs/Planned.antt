@@ -26,6 +26,7 @@ pub plan-refused : {x : State} {bytes number : ℕ} (call : Call) {r : Plan} →
 plan-refused call says f e = record {
   number-is = λ store l. e ∙ sym (ap (λ (a : Answer). a .reply .number) (says .refused f store call l));
   decided = λ z. absurd (f (sym e ∙ z));
+  slots-left-is = λ z. absurd (f (sym e ∙ z));
   left-is = λ z. absurd (f (sym e ∙ z));
   carries = λ z. absurd (f (sym e ∙ z));
 }
@@ -52,6 +53,7 @@ module _ (regs : Regs) (m : Arrays) (long : Long m) (bytes : ℕ) {r : RulesJudg
     number-is = λ store l.
         deciding.number-is (ready store l) call plan ∙ sym (refusal-told paper (stateIn regs m) store call);
     decided = λ z store l. deciding.decided (ready store l) call plan z;
+    slots-left-is = λ z. deciding.slots-left-is ready-with-some call plan z;
     left-is = λ z. deciding.left-is ready-with-some call plan z;
     carries = λ z store l. deciding.carries (ready store l) call plan z;
   }

@@ -8,7 +8,7 @@ use lib.ListN.{length}
 use Rattle.model.specs.Basics.{when, firstRefusal}
 use Rattle.model.specs.Sizes.{Sizes, paper, storeBytes}
 use Rattle.model.specs.State.{State, keeps}
-use Rattle.model.specs.Slot.{Call, halvesTaken, refuse, carriedOut, slot}
+use Rattle.model.specs.Slot.{Call, wrote, slotsToRefill, halvesTaken, refuse, carriedOut, slot}
 use Rattle.layout.specs.Calls.{chosenIn, callIn}
 use Rattle.layout.specs.Counts.{ByQueue, Tallies}
 use Rattle.layout.specs.declared.Regs.{Regs}
@@ -51,7 +51,9 @@ pub record PlanCheckedSays (x : State) (bytes : ℕ) (call : Call) (r : Plan) : 
   pub number-is : (store : List ℕ) → length store ≡ bytes → r .number ≡ slot paper x store call .reply .number
   pub decided : r .number ≡ 0 → (store : List ℕ) → length store ≡ bytes
       → Decided x store (callIn (r .arrival) (r .request)) (r .owes) (r .swaps) (chosenIn (r .written))
-      (chosenIn (r .read))
+      (chosenIn (r .refill .queue))
+  pub slots-left-is : r .number ≡ 0
+      → r .refill .«slots_left» ≡ slotsToRefill (wrote x (callIn (r .arrival) (r .request)))
   pub left-is : r .number ≡ 0 → callIn (r .arrival) (r .request) ≡ halvesTaken x call
   pub carries : r .number ≡ 0 → (store : List ℕ) → length store ≡ bytes
       → carriedOut (r .«arrival_number») (r .«request_number») x store (callIn (r .arrival) (r .request))

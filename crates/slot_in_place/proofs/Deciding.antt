@@ -11,8 +11,8 @@ use Rattle.model.specs.Basics.{choose}
 use Rattle.model.specs.Sizes.{paper, lookahead}
 use Rattle.model.specs.State.{Byte, Cell, owed, State, countOf, owes, owedOf}
 use Rattle.model.specs.Slot.{Call, oldestCell, arriving, isOwed, swaps, earlyArrival, joined, asked, wrote}
-use Rattle.model.specs.Slot.{queueToWrite}
-use Rattle.model.specs.Slot.{queueToRead, halvesTaken, refusal, carriedOut, accept, answer, slot}
+use Rattle.model.specs.Slot.{queueToWrite, queueToRead, slotsToRefill, Refill, refillOf}
+use Rattle.model.specs.Slot.{halvesTaken, refusal, carriedOut, accept, answer, slot}
 use Rattle.model.proofs.basics.Tests.{eqb-same}
 use Rattle.model.proofs.basics.Bytes.{count-append}
 use Rattle.model.proofs.basics.Cells.{owed-below}
@@ -24,7 +24,7 @@ use Rattle.model.proofs.one_slot.Kept.{read-taken, rules-written}
 use Rattle.model.proofs.delay.IdealSlot.{held-before}
 use Rattle.layout.specs.Lengths.{queuePlaces}
 use Rattle.layout.specs.Entries.{countsIn, cellOf}
-use Rattle.layout.specs.Calls.{chosenIn, callIn}
+use Rattle.layout.specs.Calls.{chosenIn, refillIn, callIn}
 use Rattle.layout.specs.declared.Regs.{Regs}
 use Rattle.layout.specs.Views.{Arrays, stateIn}
 use Rattle.layout.specs.Figures.{Figures, figuresOf, figuresIn}
@@ -90,8 +90,11 @@ module _ {regs : Regs} {m : Arrays} {counts : ByQueue} {store : List ℕ} (r : R
         swaps-is : plan .swaps ≡ swaps x (left .arrival) (left .request)
         swaps-is = by-figures .swaps-is none ∙ plan-swaps x store call (r .kept) accepted
 
-        read-is : chosenIn (plan .read) ≡ queueToRead (wrote x left)
-        read-is = by-figures .read-is none ∙ plan-read x store call (r .kept) accepted
+        refill-is : refillIn (plan .refill) ≡ refillOf (wrote x left)
+        refill-is = by-figures .read-is none ∙ plan-read x store call (r .kept) accepted
+
+        read-is : chosenIn (plan .refill .queue) ≡ queueToRead (wrote x left)
+        read-is = ap (λ (f : Refill). f .queue) refill-is
 
         written-is : chosenIn (plan .written) ≡ queueToWrite (asked x left)
         written-is = by-figures .written-is none ∙ plan-written x store call (r .kept) accepted
@@ -100,7 +103,7 @@ module _ {regs : Regs} {m : Arrays} {counts : ByQueue} {store : List ℕ} (r : R
         judged = accepted-facts paper x store call accepted .judged
 
         decided-left : Decided x store left (plan .owes) (plan .swaps) (chosenIn (plan .written))
-            (chosenIn (plan .read))
+            (chosenIn (plan .refill .queue))
         decided-left = record {
           all-taken = left-once x call;
           accepted = left-accepted paper x store call accepted;
@@ -165,7 +168,7 @@ module _ {regs : Regs} {m : Arrays} {counts : ByQueue} {store : List ℕ} (r : R
             ∙ sym written-is ∙ e) in
             (omega (arith, has .0, standing.limits r .q-high), has .1)
 
-        pub read-there : (q : ℕ) → chosenIn (plan .read) ≡ some q → q < queuePlaces
+        pub read-there : (q : ℕ) → chosenIn (plan .refill .queue) ≡ some q → q < queuePlaces
         read-there q e =
             omega (
               arith,
@@ -196,10 +199,16 @@ module _ {regs : Regs} {m : Arrays} {counts : ByQueue} {store : List ℕ} (r : R
             (sym left-is) (arrival-there, request-there, byte-there, block-there)
 
         pub decided : Decided x store taken (plan .owes) (plan .swaps) (chosenIn (plan .written))
-            (chosenIn (plan .read))
+            (chosenIn (plan .refill .queue))
         decided =
             subst (λ (c : Call). Decided x store c (plan .owes) (plan .swaps) (chosenIn (plan .written))
-            (chosenIn (plan .read))) (sym left-is) decided-left
+            (chosenIn (plan .refill .queue))) (sym left-is) decided-left
+
+        -- What a read tells beside its queue.
+        pub slots-left-is : plan .refill .«slots_left» ≡ slotsToRefill (wrote x taken)
+        slots-left-is =
+            ap (λ (f : Refill). f .slotsLeft) refill-is
+            ∙ sym (ap (λ (c : Call). slotsToRefill (wrote x c)) left-is)
 
         -- The slot is what is carried out of them.
         pub carries : carriedOut (plan .«arrival_number») (plan .«request_number») x store taken
@@ -213,12 +222,12 @@ module _ {regs : Regs} {m : Arrays} {counts : ByQueue} {store : List ℕ} (r : R
         -- The counts, turned, are those of the state that the slot leaves.
         pub counted : {counts′ : ByQueue}
             → TurnSays (x .sizes) (cellOf (getD (m .cells) 0 0)) taken (plan .owes) (chosenIn (plan .written))
-            (chosenIn (plan .read)) counts counts′
+            (chosenIn (plan .refill .queue)) counts counts′
             → Tallies (carriedOut 0 0 x store taken .state) counts′
         counted {counts′} turned =
             subst (λ (c : Call). Tallies (carriedOut 0 0 x store c .state) counts′) (sym left-is)
             (tallies-kept x store left judged (r .tallies) owed-is written-is read-is
             (subst (λ (c : Cell). TurnSays (x .sizes) c left (plan .owes) (chosenIn (plan .written))
-            (chosenIn (plan .read)) counts counts′) (sym oldest)
+            (chosenIn (plan .refill .queue)) counts counts′) (sym oldest)
             (subst (λ (c : Call). TurnSays (x .sizes) (cellOf (getD (m .cells) 0 0)) c (plan .owes)
-            (chosenIn (plan .written)) (chosenIn (plan .read)) counts counts′) left-is turned)))
+            (chosenIn (plan .written)) (chosenIn (plan .refill .queue)) counts counts′) left-is turned)))

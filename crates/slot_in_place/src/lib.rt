@@ -129,7 +129,8 @@ pub fn advance(
     let owes = plan.owes;
     let swaps = plan.swaps;
     let written = plan.written;
-    let read = plan.read;
+    let refill = plan.refill;
+    let read = refill.queue;
     let cell = cells[0];
     slot_counts::turn(
         tails,
@@ -169,6 +170,7 @@ pub fn advance(
             delivery: delivery,
             written: written,
             read: read,
+            slots_left: refill.slots_left,
         },
     }
 }

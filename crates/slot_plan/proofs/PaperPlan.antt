@@ -14,7 +14,8 @@ use Rattle.model.specs.Sizes.{tailSize, headSize, storeBytes, paper}
 use Rattle.model.specs.State.{Byte, Cell, empty, held, owed, State, countOf, tailBytes, headBytes, owedCells, blocks}
 use Rattle.model.specs.State.{keeps}
 use Rattle.model.specs.Slot.{Call, oldestOf, oldestCell, headWithout, afterDelivery, arriving, isOwed, heldCell}
-use Rattle.model.specs.Slot.{youngestCell, moves, refillQueue, queueToWrite, queueToRead, joined, asked, wrote}
+use Rattle.model.specs.Slot.{youngestCell, moves, placesOn, Refill, refillBy, noRefill, refillOf, onward, queueToRead}
+use Rattle.model.specs.Slot.{queueToWrite, joined, asked, wrote}
 use Rattle.model.specs.Slot.{swapTests, swaps, arrivalUnknown, arrivalFull, arrivalTaken, requestDrops, halvesTaken}
 use Rattle.model.specs.Slot.{requestUnknown, nothingToTake, leavesUncovered, tailFull, headFull, refusals, refusal}
 use Rattle.model.proofs.basics.Tests.{by-test, positive, eqb-same, true-not-false}
@@ -223,26 +224,35 @@ module _ (x : State) (kept : keeps paper x ≡ true) (call : Call) where
 
 -- A Held cell at the end is passed over as an empty one is.
 held-passed : (credits : ℕ → ℕ) (cells : List Cell) (q v : ℕ)
-    → refillQueue credits (cells ++ empty ∷ []) ≡ refillQueue credits (cells ++ held q v ∷ [])
+    → refillBy credits (cells ++ empty ∷ []) ≡ refillBy credits (cells ++ held q v ∷ [])
 held-passed credits [] q v = refl
-held-passed credits (empty ∷ cells) q v = held-passed credits cells q v
-held-passed credits (held p u ∷ cells) q v = held-passed credits cells q v
+held-passed credits (empty ∷ cells) q v = ap (onward 1) (held-passed credits cells q v)
+held-passed credits (held p u ∷ cells) q v = ap (onward 1) (held-passed credits cells q v)
 held-passed credits (owed p ∷ cells) q v =
-    ap (λ (o : Option ℕ). choose (eqb (credits p) 0) (some p) o)
+    ap (λ (r : Refill). record {
+      queue = choose (eqb (credits p) 0) (some p) (r .queue);
+      slotsLeft = choose (eqb (credits p) 0) 1 (placesOn 1 (r .slotsLeft));
+    })
     (held-passed (update credits p (credits p - 1)) cells q v)
 
 byte-passed : (credits : ℕ → ℕ) (cells : List Cell) (q : ℕ) (o : Option ℕ)
-    → refillQueue credits (cells ++ empty ∷ []) ≡ refillQueue credits (cells ++ heldCell q o ∷ [])
+    → refillBy credits (cells ++ empty ∷ []) ≡ refillBy credits (cells ++ heldCell q o ∷ [])
 byte-passed credits cells q none = refl
 byte-passed credits cells q (some v) = held-passed credits cells q v
 
 new-cell-passed : (y : State) (credits : ℕ → ℕ) (cells : List Cell) (q : ℕ)
-    → refillQueue credits (cells ++ newCell (isOwed y q) (some q) ∷ [])
-    ≡ refillQueue credits (cells ++ youngestCell y (some q) ∷ [])
+    → refillBy credits (cells ++ newCell (isOwed y q) (some q) ∷ [])
+    ≡ refillBy credits (cells ++ youngestCell y (some q) ∷ [])
 new-cell-passed y credits cells q =
     by-test (isOwed y q)
     (λ t. rw t)
     (λ t. rw t (byte-passed credits cells q (oldestOf q (y .tail))))
+
+-- What is read at phase b - 1 alone, as a whole and part by part.
+by-phase : (t : Bool) (r : Refill)
+    → choose t r noRefill ≡ record { queue = choose t (r .queue) none; slotsLeft = choose t (r .slotsLeft) 0 }
+by-phase true r = refl
+by-phase false r = refl
 
 -- The head has as many bytes fewer as the leaving cell takes.
 length-taken : (x : State) (cell : Cell) → leavesUncovered cell x ≡ false
@@ -279,20 +289,21 @@ module _ (x : State) (store : List ℕ) (call : Call) (j : Judged paper x store 
 
   new-cell-alike : (credits : ℕ → ℕ) (cells : List Cell) (request : Option ℕ)
       → ((q : ℕ) → request ≡ some q → owesNow (figuresOf x) request ≡ isOwed (joined x call) q)
-      → refillQueue credits (cells ++ newCell (owesNow (figuresOf x) request) request ∷ [])
-      ≡ refillQueue credits (cells ++ youngestCell (joined x call) request ∷ [])
+      → refillBy credits (cells ++ newCell (owesNow (figuresOf x) request) request ∷ [])
+      ≡ refillBy credits (cells ++ youngestCell (joined x call) request ∷ [])
   new-cell-alike credits cells none h = refl
   new-cell-alike credits cells (some q) h =
-      ap (λ (t : Bool). refillQueue credits (cells ++ newCell t (some q) ∷ [])) (h q refl)
+      ap (λ (t : Bool). refillBy credits (cells ++ newCell t (some q) ∷ [])) (h q refl)
       ∙ new-cell-passed (joined x call) credits cells q
 
   read-alike : readNow (x .phase) (x .sizes) (headBytes x) (x .cells) (owesNow (figuresOf x) (call .request))
-      (call .request) ≡ queueToRead (wrote x call)
+      (call .request) ≡ refillOf (wrote x call)
   read-alike =
-      ap (λ (o : Option ℕ). choose (moves x) o none)
+      ap (λ (r : Refill). choose (moves x) r noRefill)
       (new-cell-alike (spent (headBytes x) (oldestCell (x .cells))) (drop 1 (x .cells)) (call .request) owes-alike
-      ∙ ap (λ (credits : ℕ → ℕ). refillQueue credits (wrote x call .cells))
+      ∙ ap (λ (credits : ℕ → ℕ). refillBy credits (wrote x call .cells))
       (fun-ext (λ q. sym (count-head-without (oldestCell (x .cells)) (x .head) q))))
+      ∙ by-phase (moves x) (refillBy (headBytes (wrote x call)) (wrote x call .cells))
 
 -- A request that is dropped would not be Owed, so that what is left of the call is Owed as the call is.
 owes-left : (x : State) (call : Call) → owesNow (figuresOf x) (halvesTaken x call .request)
@@ -358,7 +369,7 @@ module _ (x : State) (store : List ℕ) (call : Call) (kept : keeps paper x ≡ 
       earlyNumber (figuresOf x) (owesNow (figuresOf x) (call .request)) (oldestCell (x .cells)) call ∷
       when (fullNow (x .sizes) (length (x .head)) (oldestCell (x .cells))
       (readNow (x .phase) (x .sizes) (headBytes x) (x .cells) (owesNow (figuresOf x) (call .request))
-      (leftOf (figuresOf x) call .request))) 10 ∷ [])
+      (leftOf (figuresOf x) call .request) .queue)) 10 ∷ [])
       ≡ refusal paper x store call
   plan-refusal long =
       ap (λ (n : ℕ). firstRefusal (n ∷ when full-before 10 ∷ [])) early-as-paper
@@ -377,7 +388,7 @@ module _ (x : State) (store : List ℕ) (call : Call) (kept : keeps paper x ≡ 
       full-before =
           fullNow (x .sizes) (length (x .head)) (oldestCell (x .cells))
           (readNow (x .phase) (x .sizes) (headBytes x) (x .cells) (owesNow (figuresOf x) (call .request))
-          (leftOf (figuresOf x) call .request))
+          (leftOf (figuresOf x) call .request) .queue)
 
       full-then : Bool
       full-then = headFull (wrote x left) (queueToRead (wrote x left))
@@ -393,10 +404,11 @@ module _ (x : State) (store : List ℕ) (call : Call) (kept : keeps paper x ≡ 
       full-same u j =
           ap (λ (c : Call). fullNow (x .sizes) (length (x .head)) (oldestCell (x .cells))
           (readNow (x .phase) (x .sizes) (headBytes x) (x .cells) (owesNow (figuresOf x) (call .request))
-          (c .request))) (left-as-paper x kept call (arrival-known u) (request-known u))
+          (c .request) .queue)) (left-as-paper x kept call (arrival-known u) (request-known u))
           ∙ ap (λ (t : Bool). fullNow (x .sizes) (length (x .head)) (oldestCell (x .cells))
-          (readNow (x .phase) (x .sizes) (headBytes x) (x .cells) t (left .request))) (sym (owes-left x call))
-          ∙ ap (fullNow (x .sizes) (length (x .head)) (oldestCell (x .cells))) (read-alike x store left j)
+          (readNow (x .phase) (x .sizes) (headBytes x) (x .cells) t (left .request) .queue)) (sym (owes-left x call))
+          ∙ ap (λ (r : Refill). fullNow (x .sizes) (length (x .head)) (oldestCell (x .cells)) (r .queue))
+          (read-alike x store left j)
           ∙ full-alike x left (j .covered) (queueToRead (wrote x left))
 
   -- A slot that goes on.
@@ -431,7 +443,7 @@ module _ (x : State) (store : List ℕ) (call : Call) (kept : keeps paper x ≡ 
     pub plan-read :
         readNow (x .phase) (x .sizes) (headBytes x) (x .cells) (owesNow (figuresOf x) (call .request))
         (leftOf (figuresOf x) call .request)
-        ≡ queueToRead (wrote x left)
+        ≡ refillOf (wrote x left)
     plan-read =
         ap (λ (c : Call). readNow (x .phase) (x .sizes) (headBytes x) (x .cells) (owesNow (figuresOf x) (call .request))
         (c .request)) plan-left

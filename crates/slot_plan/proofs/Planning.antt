@@ -10,14 +10,15 @@ use lib.ListN.{getD}
 use borrow.Author.Tests.{eqb-true, eqb-false, eq-eqb, leb-false}
 use Rattle.model.specs.Basics.{choose, when, firstRefusal}
 use Rattle.model.specs.State.{Byte, Cell, owed, countOf}
-use Rattle.model.specs.Slot.{Call, oldestCell}
+use Rattle.model.specs.Slot.{Call, oldestCell, Refill}
 use Rattle.model.proofs.basics.Tests.{by-test, positive, none-not-some, true-not-false}
 use Rattle.model.proofs.basics.FirstRefusal.{no-refusal-at, when-zero}
 use Rattle.layout.specs.Counts.{byQueue}
 use Rattle.model.proofs.basics.Bytes.{count-one-same}
 use Rattle.layout.specs.declared.Chosen.{Chosen}
+use Rattle.layout.specs.declared.Refill as code
 use Rattle.layout.specs.Entries.{countsIn}
-use Rattle.layout.specs.Calls.{chosenIn, arrivalIn, requestIn, callIn}
+use Rattle.layout.specs.Calls.{chosenIn, arrivalIn, requestIn, refillIn, callIn}
 use Rattle.layout.specs.declared.Regs.{Regs}
 use Rattle.layout.specs.Views.{sizesIn}
 use Rattle.layout.specs.Figures.{Figures, figuresIn}
@@ -228,7 +229,7 @@ module _ (regs : Regs) (tails heads owing stored : List ℕ) (cells : List Cell)
       subst (λ (o : Bool). EarlySays f o (oldestCell cells) call v) owes-found
       (subst (λ (c : Cell). EarlySays f owes c call v) (sym cell-is) by-all)
 
-  abbrev toRead : Option ℕ
+  abbrev toRead : Refill
   toRead =
       readNow (regs .phase) (sizesIn regs) (countsIn heads) cells (owesNow f (call .request)) (leftOf f call .request)
 
@@ -242,7 +243,7 @@ module _ (regs : Regs) (tails heads owing stored : List ℕ) (cells : List Cell)
   refused-says : {r : Plan}
       → r .number
       ≡ firstRefusal (
-      early ∷ when (fullNow (sizesIn regs) (regs .«head_fill») (oldestCell cells) toRead) 10 ∷ [])
+      early ∷ when (fullNow (sizesIn regs) (regs .«head_fill») (oldestCell cells) (toRead .queue)) 10 ∷ [])
       → (r .number ≡ 0 → ⊥) → Says r
   refused-says e n = record {
     number-is = e;
@@ -259,22 +260,22 @@ module _ (regs : Regs) (tails heads owing stored : List ℕ) (cells : List Cell)
   refused-early n {r} e =
       refused-says
       (e ∙ judged-by-all .number-is
-      ∙ first-here early (when (fullNow (sizesIn regs) (regs .«head_fill») (oldestCell cells) toRead) 10 ∷ [])
+      ∙ first-here early (when (fullNow (sizesIn regs) (regs .«head_fill») (oldestCell cells) (toRead .queue)) 10 ∷ [])
       (λ z. n (judged-by-all .number-is ∙ z)))
       (λ z. n (sym e ∙ z))
 
   module _ (none-early : v .number ≡ 0)
-      (read : Chosen)
-      (read-is : chosenIn read
+      (refill : code.Refill)
+      (read-is : refillIn refill
       ≡ readNow (regs .phase) (sizesIn regs) (countsIn heads) cells owes (requestIn (v .request)))
-      {full : Bool} (full-is : full ≡ fullNow (sizesIn regs) (regs .«head_fill») cell (chosenIn read)) where
+      {full : Bool} (full-is : full ≡ fullNow (sizesIn regs) (regs .«head_fill») cell (chosenIn (refill .queue))) where
     no-early : early ≡ 0
     no-early = sym (judged-by-all .number-is) ∙ none-early
 
     left-found : callIn (v .arrival) (v .request) ≡ leftOf f call
     left-found = judged-by-all .left-is none-early
 
-    read-found : chosenIn read ≡ toRead
+    read-found : refillIn refill ≡ toRead
     read-found =
         read-is
         ∙ ap (λ (o : Bool). readNow (regs .phase) (sizesIn regs) (countsIn heads) cells o (requestIn (v .request)))
@@ -282,11 +283,11 @@ module _ (regs : Regs) (tails heads owing stored : List ℕ) (cells : List Cell)
         ∙ ap (λ (c : Call). readNow (regs .phase) (sizesIn regs) (countsIn heads) cells (owesNow f (call .request))
         (c .request)) left-found
 
-    full-found : full ≡ fullNow (sizesIn regs) (regs .«head_fill») (oldestCell cells) toRead
+    full-found : full ≡ fullNow (sizesIn regs) (regs .«head_fill») (oldestCell cells) (toRead .queue)
     full-found =
         full-is
-        ∙ ap (λ (c : Cell). fullNow (sizesIn regs) (regs .«head_fill») c (chosenIn read)) (sym cell-is)
-        ∙ ap (fullNow (sizesIn regs) (regs .«head_fill») (oldestCell cells)) read-found
+        ∙ ap (λ (c : Cell). fullNow (sizesIn regs) (regs .«head_fill») c (chosenIn (refill .queue))) (sym cell-is)
+        ∙ ap (λ (r : Refill). fullNow (sizesIn regs) (regs .«head_fill») (oldestCell cells) (r .queue)) read-found
 
     pub refused-full : full ≡ true → {r : Plan} → r .number ≡ 10 → Says r
     refused-full t {r} e = refused-says (rw (no-early, ← full-found, t) e) (λ z. omega (arith, e, z))
@@ -303,7 +304,7 @@ module _ (regs : Regs) (tails heads owing stored : List ℕ) (cells : List Cell)
           owes = owes;
           swaps = v .swaps;
           written = written;
-          read = read;
+          refill = refill;
         })
     plan-accepted t written written-is = record {
       number-is = rw (no-early, ← full-found, t);

@@ -10,8 +10,8 @@ use lib.ListN.{drop}
 use Rattle.model.specs.Basics.{choose, when, firstRefusal}
 use Rattle.model.specs.Sizes.{Sizes}
 use Rattle.model.specs.State.{Cell}
-use Rattle.model.specs.Slot.{Call, oldestCell, fullest, refillQueue}
-use Rattle.layout.specs.Calls.{chosenIn, callIn}
+use Rattle.model.specs.Slot.{Call, oldestCell, fullest, Refill, refillBy, noRefill}
+use Rattle.layout.specs.Calls.{chosenIn, refillIn, callIn}
 use Rattle.layout.specs.Figures.{Figures, newCell}
 use Rattle.lookahead.specs.Says.{spent}
 use Rattle.slot_counts.specs.Says.{tailsAsked}
@@ -22,12 +22,13 @@ use Rattle.slot_plan.specs.declared.Plan.{Plan}
 abbrev pub writeNow : ℕ → Sizes → (ℕ → ℕ) → Option ℕ
 writeNow phase s tails = choose (eqb phase (s .b - 1)) (fullest (s .b) tails (s .Q)) none
 
--- The queue that the slot will read: the scan goes over the cells without the oldest and with the new one.
-abbrev pub readNow : ℕ → Sizes → (ℕ → ℕ) → List Cell → Bool → Option ℕ → Option ℕ
+-- The queue that the slot will read, and in how many slots the cell leaves that it is for: the scan goes over the cells
+-- without the oldest and with the new one.
+abbrev pub readNow : ℕ → Sizes → (ℕ → ℕ) → List Cell → Bool → Option ℕ → Refill
 readNow phase s heads cells owing request =
     choose (eqb phase (s .b - 1))
-    (refillQueue (spent heads (oldestCell cells)) (drop 1 cells ++ newCell owing request ∷ []))
-    none
+    (refillBy (spent heads (oldestCell cells)) (drop 1 cells ++ newCell owing request ∷ []))
+    noRefill
 
 -- Whether the slot takes its request before its arrival.
 abbrev pub swapsOf : Figures → Call → Bool
@@ -44,7 +45,7 @@ pub record PlanSays (f : Figures) (phase fill : ℕ) (cells : List Cell) (call :
       firstRefusal (
       earlyNumber f (owesNow f (call .request)) (oldestCell cells) call ∷
       when (fullNow (f .sizes) fill (oldestCell cells)
-      (readNow phase (f .sizes) (f .heads) cells (owesNow f (call .request)) (leftOf f call .request))) 10 ∷ [])
+      (readNow phase (f .sizes) (f .heads) cells (owesNow f (call .request)) (leftOf f call .request) .queue)) 10 ∷ [])
   pub arrival-number-is : r .number ≡ 0 → r .«arrival_number» ≡ arrivalFound f (owesNow f (call .request)) call
   pub request-number-is : r .number ≡ 0 → r .«request_number» ≡ requestFound f (owesNow f (call .request)) call
   pub left-is : r .number ≡ 0 → callIn (r .arrival) (r .request) ≡ leftOf f call
@@ -54,5 +55,5 @@ pub record PlanSays (f : Figures) (phase fill : ℕ) (cells : List Cell) (call :
       → chosenIn (r .written)
       ≡ writeNow phase (f .sizes) (tailsAsked (owesNow f (call .request)) (leftOf f call) (f .tails))
   pub read-is : r .number ≡ 0
-      → chosenIn (r .read)
+      → refillIn (r .refill)
       ≡ readNow phase (f .sizes) (f .heads) cells (owesNow f (call .request)) (leftOf f call .request)

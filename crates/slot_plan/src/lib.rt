@@ -1,18 +1,19 @@
 // What a slot will do, decided here alone and before anything moves: the number that stops it or 0, those of its halves
 // and what is left of them, whether its request takes an Owed cell, whether it takes its request before its arrival,
-// the queue to write and the queue to read. So a refused slot has nothing to undo, and a dropped half never came.
+// the queue to write, the queue to read and its slots left. So a refused slot has nothing to undo, and a dropped half
+// never came.
 ghost use mathlib.Core.Path.{_≡_};
 ghost use mathlib.Core.Bool.{true, false};
 ghost use mathlib.Core.Option.{some, none};
 ghost use mathlib.Core.List.{[], _∷_};
-ghost use Prim.Native.Nat.{ℕ, _≤_, _<_};
+ghost use Prim.Native.Nat.{ℕ, _-_, _≤_, _<_};
 ghost use lib.ListN.{length, getD};
 ghost use Rattle.model.specs.Basics.{choose, allOf};
 ghost use Rattle.model.specs.Sizes.{paperLimits, accepts, lookahead};
 ghost use Rattle.model.specs.State.{Byte, owed, cellBelow};
 ghost use Rattle.layout.specs.Lengths.{tailPlaces, headPlaces, cellPlaces, queuePlaces};
 ghost use Rattle.layout.specs.Entries.{countsIn, cellOf, cellsIn};
-ghost use Rattle.layout.specs.Calls.{chosenIn, arrivalIn, requestIn, callIn};
+ghost use Rattle.layout.specs.Calls.{chosenIn, arrivalIn, requestIn, refillIn, callIn};
 ghost use Rattle.layout.specs.Views.{sizesIn};
 ghost use Rattle.layout.specs.Lent.{countsFound};
 ghost use Rattle.layout.specs.Figures.{figuresIn, newCell};
@@ -23,6 +24,7 @@ use layout::Arrival;
 use layout::CellArray;
 use layout::Chosen;
 use layout::CountArray;
+use layout::Refill;
 use layout::Regs;
 use layout::Request;
 use layout::RingArray;
@@ -56,8 +58,8 @@ pub fn to_write(
 // Where the scan of the older cells has stopped, or else the new cell if it is Owed and not covered.
 fn or_new(stopped: lookahead::Stopped, owes: bool, request: Request) -> Chosen
     requires { ⌜ ((q : ℕ) → requestIn request ≡ some q → owes ≡ true → q < queuePlaces) ⌝ }
-    ensures { λ r. ⌜ chosenIn r ≡ scanEnds (chosenIn (stopped .found)) (countsIn (stopped .left))
-        (newCell owes (requestIn request) ∷ []) ⌝ }
+    ensures { λ r. ⌜ chosenIn r ≡ scanEnds (chosenIn (stopped .found)) (stopped .place - 1) (countsIn (stopped .left))
+        (newCell owes (requestIn request) ∷ []) .queue ⌝ }
 {
     let found = stopped.found;
     match found {
@@ -81,29 +83,31 @@ fn or_new(stopped: lookahead::Stopped, owes: bool, request: Request) -> Chosen
     }
 }
 
-// The queue that the slot will read.
+// The queue that the slot will read, and the slots left.
 pub fn to_read(
     cells: &CellArray,
     heads: &CountArray,
     regs: Regs,
     owes: bool,
     request: Request,
-) -> Chosen
+) -> Refill
     requires { ⌜ (accepts paperLimits (sizesIn regs) ≡ true) × (regs .phase < regs .block)
         × (length (now heads) ≡ queuePlaces) × (length (now cells) ≡ cellPlaces)
         × (allOf (cellBelow queuePlaces) (cellsIn (lookahead (sizesIn regs)) (now cells)) ≡ true)
         × ((q : ℕ) → cellOf (getD (now cells) 0 0) ≡ owed q → 1 ≤ countsIn (now heads) q)
         × ((q : ℕ) → requestIn request ≡ some q → owes ≡ true → q < queuePlaces) ⌝ }
-    ensures { λ r. ⌜ chosenIn r ≡ readNow (regs .phase) (sizesIn regs) (countsIn (now (heads .entry)))
+    ensures { λ r. ⌜ refillIn r ≡ readNow (regs .phase) (sizesIn regs) (countsIn (now (heads .entry)))
         (cellsIn (lookahead (sizesIn regs)) (now (cells .entry))) owes (requestIn request) ⌝ }
 {
     if regs.phase + 1 != regs.block {
-        return Chosen::Nothing;
+        return layout::refill_at(Chosen::Nothing, 0);
     }
     let mut credits = *heads;
     lookahead::spend(&mut credits, cells[0]);
     let stopped = lookahead::scan(cells, 1, regs.queues * (regs.block - 1) + 1, credits);
-    or_new(stopped, owes, request)
+    // It began at place 1, with the cell that leaves in the next slot: so the place where it stopped says in how many
+    // slots a cell leaves, be it one of those that it scanned or the new one behind them.
+    layout::refill_at(or_new(stopped, owes, request), stopped.place)
 }
 
 // The arrival that joins before the request, and the one that joins after it: one of the two is none.
@@ -135,13 +139,14 @@ pub struct Plan {
     pub owes: bool,
     pub swaps: bool,
     pub written: Chosen,
-    pub read: Chosen,
+    pub refill: Refill,
 }
 
 // The plan of a slot that is refused: nothing.
 pub fn refused(number: u8) -> Plan
     ensures { λ r. ⌜ (r .number ≡ number) ⌝ }
 {
+    let nothing = layout::refill_at(Chosen::Nothing, 0);
     Plan {
         number: number,
         arrival_number: 0,
@@ -151,7 +156,7 @@ pub fn refused(number: u8) -> Plan
         owes: false,
         swaps: false,
         written: Chosen::Nothing,
-        read: Chosen::Nothing,
+        refill: nothing,
     }
 }
 
@@ -195,7 +200,8 @@ pub fn decide(
     let comes = verdict.arrival;
     let asks = verdict.request;
     let swaps = verdict.swaps;
-    let read = to_read(cells, heads, regs, owes, asks);
+    let refill = to_read(cells, heads, regs, owes, asks);
+    let read = refill.queue;
     if slot_refusals::head_full(regs, cell, read) {
         return refused(10);
     }
@@ -209,6 +215,6 @@ pub fn decide(
         owes: owes,
         swaps: swaps,
         written: written,
-        read: read,
+        refill: refill,
     }
 }

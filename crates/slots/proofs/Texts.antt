@@ -11,18 +11,19 @@ use Rattle.model.specs.Basics.{choose}
 use Rattle.model.proofs.basics.Tests.{by-test}
 use Rattle.script_commands.specs.Commands as of
 use Rattle.script_commands.specs.Scripts.{Script, judge}
-use Rattle.script_lines.specs.Lines.{Line, delivery, refusal, ending, fault, letter, lineText, text}
+use Rattle.script_lines.specs.Lines.{Line, delivery, refusal, refill, ending, fault, letter, lineText, text}
 use Rattle.script_text.specs.Run.{mostBytes, startNumber, startedLines, scriptSteps, sizesOf, judgedLines}
 use Rattle.script_text.specs.Run.{slotLines, scriptLines, storeLent, programText}
 use Rattle.slots.specs.Says.{IsProgramText}
 
--- The byte of D, the least of the four letters, or a greater one.
+-- The byte of D, the least of the five letters, or a greater one.
 abbrev Lettered : List Line → Type 0
 Lettered lines = 68 ≤ getD (text lines) 0 0
 
 a-letter : (line : Line) → 68 ≤ letter line
 a-letter (delivery t q v) = omega arith
 a-letter (refusal t n) = omega arith
+a-letter (refill t q n) = omega arith
 a-letter (ending t) = omega arith
 a-letter (fault n offset) = omega arith
 

@@ -8,7 +8,7 @@ use Rattle.io.specs.Counts.{Counts}
 use Rattle.script_text.specs.Run.{mostBytes, outputBound, programText}
 use Rattle.slots.specs.declared.Answer.{Answer}
 
--- How much output the program lends: what the longest script can need, 655,371 bytes, and so any (`output-enough`).
+-- How much output the program lends: what the longest script can need, 720,907 bytes, and so any (`output-enough`).
 abbrev pub mostOutput : ℕ
 mostOutput = outputBound mostBytes
 

@@ -8,9 +8,10 @@
 //! Each script is judged, read command by command, written back and run by both, in just as much output as is asked for
 //! it and, of the proved runner alone, in one byte less. PROGRAM is the program `slots`: every hundredth script, and
 //! those at the edges of the format and the worked cases, also go through it. Numbers that are no command go to the
-//! writer. Prints how often each line and each refusal occurred, how often a slot had which lines and how many slots
-//! swapped; a line or a refusal that never occurred is a failure, and so are lines of a slot that are out of order, and
-//! too few slots of a kind or swaps in 4,000 scripts or more. `compare program` tests the program alone, on inputs that
+//! writer. Prints how often each line and each refusal occurred, how often a slot had which lines, how many slots
+//! swapped, and how often the fewest and the most slots were left at a read; a line or a refusal that never occurred is
+//! a failure, and so are lines of a slot that are out of order, and too few slots of a kind, swaps, or sizes with both
+//! the fewest and the most in 4,000 scripts or more. `compare program` tests the program alone, on inputs that
 //! come in parts and on inputs and outputs that fail. `compare captures` has both make scripts of the captures in
 //! tests/captures and of COUNT random ones; it prints how often each answer came, and one that came too seldom in 4,000
 //! captures or more is a failure. The last line is 'N passed, M failed'.
@@ -54,6 +55,7 @@ fn main() -> ExitCode {
     let mut random = Random::new(seed);
     let mut all = scripts::edges();
     let edges = all.len();
+    all.extend(scripts::reads());
     all.extend(scripts::long(&mut random));
     all.extend((0..count).map(|_| scripts::script(&mut random)));
 
@@ -112,7 +114,7 @@ fn compare(script: &[u8], program: Option<&str>, seen: &mut Seen) -> Result<Vec<
     commands::compare(script)?;
     let (text, swaps) = texts::compare(script)?;
     texts::too_short(script)?;
-    seen.add(&text, swaps);
+    seen.add(script, &text, swaps);
     if let Some(path) = program {
         program::from_pipe(path, script, &text)?;
         program::in_chunks(path, script, script.len() / 5 + 1, &text)?;

@@ -51,30 +51,31 @@ const REFUSED: [(usize, usize, usize); 9] = [
 /// the tail, and in slot 2, with both in the store, so that the request would be Owed and the arrival is dropped. Of
 /// request 2.5: the listing of the paper; in slot 7 a byte leaves, a full queue drops an arrival, and the request of
 /// that queue, whose bytes are all owed, is dropped too; and what stops a slot is its only answer, though both halves
-/// would be dropped, as they are in slot 2.
+/// would be dropped, as they are in slot 2. Of request 2.6: a request in the slot that reads its block, all L = 2 slots
+/// before its byte leaves; and with b 1 a read is always 1 slot before that.
 #[rustfmt::skip]
-pub const WORKED: [(&[u8], &str); 7] = [
+pub const WORKED: [(&[u8], &str); 9] = [
     (
         &[SIZES, 1, 2, 1, IDLE, ARRIVAL, 0, 65, ARRIVAL, 0, 66, BOTH, 0, 67, 0, COUNT, 4, 0, END],
         "D 5 0 65\nE 8\n",
     ),
     (
         &[SIZES, 1, 2, 1, ARRIVAL, 0, 65, ARRIVAL, 0, 66, BOTH, 0, 67, 0, COUNT, 4, 0, END],
-        "R 2 5\nD 4 0 65\nE 7\n",
+        "R 2 5\nM 3 0 1\nD 4 0 65\nE 7\n",
     ),
     (
         &[
             SIZES, 1, 2, 2, BOTH, 0, 65, 0, ARRIVAL, 0, 66, REQUEST, 0, REQUEST, 0, ARRIVAL, 0, 67, ARRIVAL, 0, 68,
             IDLE, REQUEST, 0, COUNT, 2, 0, END,
         ],
-        "D 2 0 65\nR 3 7\nD 4 0 66\nD 9 0 67\nE 10\n",
+        "D 2 0 65\nR 3 7\nD 4 0 66\nM 7 0 2\nD 9 0 67\nE 10\n",
     ),
     (
         &[
             SIZES, 2, 2, 1, ARRIVAL, 0, 65, ARRIVAL, 0, 66, ARRIVAL, 1, 67, ARRIVAL, 1, 68, REQUEST, 1, REQUEST, 0,
             REQUEST, 0, BOTH, 0, 69, 0, COUNT, 2, 0, END,
         ],
-        "D 7 1 67\nR 7 5\nR 7 7\nD 8 0 65\nD 9 0 66\nE 10\n",
+        "M 5 1 2\nD 7 1 67\nR 7 5\nR 7 7\nM 7 0 1\nD 8 0 65\nD 9 0 66\nE 10\n",
     ),
     (
         &[
@@ -88,7 +89,15 @@ pub const WORKED: [(&[u8], &str); 7] = [
             SIZES, 2, 2, 1, ARRIVAL, 0, 66, ARRIVAL, 1, 67, ARRIVAL, 1, 68, IDLE, ARRIVAL, 0, 70, ARRIVAL, 0, 71,
             REQUEST, 0, REQUEST, 1, REQUEST, 1, BOTH, 1, 75, 1, REQUEST, 1, END,
         ],
-        "R 5 5\nD 9 0 66\nR 9 5\nR 9 7\nD 10 1 67\nR 10 7\nE 11\n",
+        "R 5 5\nM 7 0 2\nD 9 0 66\nR 9 5\nR 9 7\nM 9 1 1\nD 10 1 67\nR 10 7\nE 11\n",
+    ),
+    (
+        &[SIZES, 1, 2, 1, ARRIVAL, 0, 65, ARRIVAL, 0, 66, IDLE, REQUEST, 0, COUNT, 2, 0, END],
+        "M 3 0 2\nD 5 0 65\nE 6\n",
+    ),
+    (
+        &[SIZES, 3, 1, 1, ARRIVAL, 2, 65, ARRIVAL, 1, 66, REQUEST, 2, REQUEST, 1, IDLE, END],
+        "M 2 2 1\nD 3 2 65\nM 3 1 1\nD 4 1 66\nE 5\n",
     ),
 ];
 
@@ -141,6 +150,25 @@ pub fn edges() -> Vec<Vec<u8>> {
     early_end[4] = END;
     all.push(early_end);
     all
+}
+
+/// Two scripts for each of some sizes: all queues are asked one after the other, with a block of each in store, so that
+/// the last is read in the slot before its byte leaves; and one is asked in the slot that reads its block, all of the
+/// lookahead before (request 2.6).
+pub fn reads() -> Vec<Vec<u8>> {
+    let small = [(1, 2, 1), (2, 2, 1), (3, 2, 2), (2, 3, 1), (4, 3, 2), (5, 4, 1)];
+    let of_sizes = |&(q, b, k): &(usize, usize, usize)| {
+        let sizes = vec![SIZES, q as u8, b as u8, k as u8];
+        let block = |queue: u8| [ARRIVAL, queue, 65].repeat(b);
+        let idle = |slots: usize| vec![COUNT, slots as u8, (slots >> 8) as u8];
+        let blocks: Vec<u8> = (0..q as u8).flat_map(block).collect();
+        let requests: Vec<u8> = (0..q as u8).flat_map(|queue| [REQUEST, queue]).collect();
+        let end = [idle(q * b), vec![END]].concat();
+        let last = [sizes.clone(), blocks, requests, end.clone()].concat();
+        let first = [sizes, block(0), idle(b - 1), vec![REQUEST, 0], end].concat();
+        [last, first]
+    };
+    small.iter().chain(&AT_THE_LIMITS).flat_map(of_sizes).collect()
 }
 
 /// Long scripts under full traffic, at the three sizes that the benchmarks use and at the limits.

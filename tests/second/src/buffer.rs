@@ -20,6 +20,9 @@ pub struct Answer {
     pub delivered: Option<(usize, u8)>,
     pub written: Option<usize>,
     pub read: Option<usize>,
+    /// Request 2.6: "in how many slots the uncovered cell leaves, counted after the slot's own delivery, so 1 to L",
+    /// "and 0 where nothing is read".
+    pub slots_left: usize,
 }
 
 /// The number of a slot, of its arrival and of its request.
@@ -28,7 +31,15 @@ pub type Numbers = [u8; 3];
 impl Answer {
     /// "Every other refusal still stops the slot and is then its only answer."
     pub fn stopped(number: u8) -> Answer {
-        Answer { number, arrival_number: 0, request_number: 0, delivered: None, written: None, read: None }
+        Answer {
+            number,
+            arrival_number: 0,
+            request_number: 0,
+            delivered: None,
+            written: None,
+            read: None,
+            slots_left: 0,
+        }
     }
 
     pub fn numbers(&self) -> Numbers {
@@ -168,11 +179,11 @@ impl Buffer {
             next.take_youngest_cell(halves.request);
         }
         let mut written = None;
-        let mut read = None;
+        let mut uncovered = None;
         if next.phase == next.sizes.b - 1 {
             let block = next.take_block_to_write();
-            read = next.first_uncovered_queue();
-            if read.is_some() && fill(&next.head) + next.sizes.b > next.sizes.head_size() {
+            uncovered = next.first_uncovered();
+            if uncovered.is_some() && fill(&next.head) + next.sizes.b > next.sizes.head_size() {
                 return Answer::stopped(10);
             }
             // Past the last refusal: from here on the store may change.
@@ -180,7 +191,7 @@ impl Buffer {
                 store[block.start..block.start + block.bytes.len()].copy_from_slice(&block.bytes);
                 written = Some(block.queue);
             }
-            if let Some(queue) = read {
+            if let Some((queue, _)) = uncovered {
                 next.read_first_block(queue, store);
             }
         }
@@ -190,7 +201,9 @@ impl Buffer {
         next.phase = (next.phase + 1) % next.sizes.b;
         *self = next;
         let Halves { arrival_number, request_number, .. } = halves;
-        Answer { number: 0, arrival_number, request_number, delivered, written, read }
+        let read = uncovered.map(|(queue, _)| queue);
+        let slots_left = uncovered.map_or(0, |(_, slots_left)| slots_left);
+        Answer { number: 0, arrival_number, request_number, delivered, written, read, slots_left }
     }
 
     /// Request 2.1: "Where the arrival's queue is full, the request is for that queue, the request would be Held, and
@@ -388,15 +401,15 @@ impl Buffer {
         Some(Block { queue, start, bytes })
     }
 
-    /// Step 4, the choice of the read: the first Owed cell, from the oldest,
-    /// that the head bytes of its queue do not cover.
-    fn first_uncovered_queue(&self) -> Option<usize> {
+    /// Step 4, the choice of the read: the first Owed cell, from the oldest, that the head bytes of its queue do not
+    /// cover. Gives its queue and in how many slots it leaves; the oldest one leaves in the next.
+    fn first_uncovered(&self) -> Option<(usize, usize)> {
         let mut owed_so_far = vec![0; self.sizes.q];
-        for &cell in &self.cells {
+        for (&cell, slots_left) in self.cells.iter().zip(1..) {
             if let Cell::Owed(queue) = cell {
                 owed_so_far[queue] += 1;
                 if owed_so_far[queue] > self.head[queue].len() {
-                    return Some(queue);
+                    return Some((queue, slots_left));
                 }
             }
         }

@@ -102,6 +102,9 @@ impl Tally {
         self.event("accepted, block read", answer.read.is_some());
         self.event("accepted, written and read", answer.written.is_some() && answer.read.is_some());
         self.event("accepted, read from last ring place", answer.read.map_or(false, wraps));
+        self.event("accepted, read for the next cell to leave", answer.slots_left == 1);
+        let for_new_cell = answer.slots_left == outcome.state.cells.len();
+        self.event("accepted, read for the new cell", answer.read.is_some() && for_new_cell);
         if broken.is_empty() {
             self.add_full_queue(case, answer);
         }

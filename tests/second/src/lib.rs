@@ -18,6 +18,7 @@ pub mod random;
 pub mod random_capture;
 pub mod random_state;
 pub mod raw;
+pub mod reads;
 pub mod rules;
 pub mod script;
 pub mod sizes;

@@ -51,16 +51,17 @@ fn call_line(arrival: Option<(usize, u8)>, request: Option<usize>) -> String {
     format!("call arrival {} request {}", or_none(arrival.as_ref().map(pair)), or_none(request))
 }
 
-/// The slot's number, then the arrival's and the request's (request 2.5).
+/// The slot's number, then the arrival's and the request's (request 2.5); last the slots left (request 2.6).
 pub fn print_answer(answer: &Answer) {
     println!(
-        "answer {} {} {} delivered {} written {} read {}",
+        "answer {} {} {} delivered {} written {} read {} left {}",
         answer.number,
         answer.arrival_number,
         answer.request_number,
         or_none(answer.delivered.as_ref().map(pair)),
         or_none(answer.written),
         or_none(answer.read),
+        answer.slots_left,
     );
 }
 

@@ -1,4 +1,4 @@
-//! The program `slots`: runs a script and prints its D, R, E and S lines.
+//! The program `slots`: runs a script and prints its D, R, M, E and S lines.
 
 use std::io::{self, Write};
 
@@ -102,6 +102,10 @@ impl Run {
             if half_number != 0 {
                 writeln!(output, "R {slot_number} {half_number}")?;
             }
+        }
+        // Request 2.6: "a line `M t q n` for each read (slot, queue, slots left), after that slot's D and R lines".
+        if let Some(queue) = answer.read {
+            writeln!(output, "M {slot_number} {queue} {}", answer.slots_left)?;
         }
         Ok(())
     }

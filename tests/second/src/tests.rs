@@ -4,6 +4,7 @@ mod arbiter;
 mod captures;
 mod dropped_halves;
 mod high_marks;
+mod slots_left;
 mod swap;
 
 use crate::arbiter::{ArbiterAnswer, Asker};
@@ -40,7 +41,7 @@ fn arbiter_slot(state: &mut RawState, arrival: Option<(usize, u8)>, store: &mut 
 
 /// The answer of a slot that delivers nothing and moves no block.
 fn moves_nothing([number, arrival_number, request_number]: Numbers) -> Answer {
-    Answer { number, arrival_number, request_number, delivered: None, written: None, read: None }
+    Answer { number, arrival_number, request_number, delivered: None, written: None, read: None, slots_left: 0 }
 }
 
 #[test]
@@ -216,14 +217,15 @@ fn printed(script: &[u8]) -> String {
     String::from_utf8(output).expect("plain text")
 }
 
-/// Request 2.5: "The listing in document 01 now ends `D 9 0 67`, `E 10`, its other lines unchanged."
+/// Request 2.5: "The listing in document 01 now ends `D 9 0 67`, `E 10`, its other lines unchanged." Request 2.6: "The
+/// listing gains `M 7 0 2` before its last D line."
 #[test]
 fn the_listing_of_the_paper() {
     let script = [
         0x10, 0x01, 0x02, 0x02, 0x03, 0x00, 0x41, 0x00, 0x01, 0x00, 0x42, 0x02, 0x00, 0x02, 0x00, 0x01, 0x00, 0x43,
         0x01, 0x00, 0x44, 0x00, 0x02, 0x00, 0x04, 0x02, 0x00, 0x05,
     ];
-    assert_eq!(printed(&script), "D 2 0 65\nR 3 7\nD 4 0 66\nD 9 0 67\nE 10\n");
+    assert_eq!(printed(&script), "D 2 0 65\nR 3 7\nD 4 0 66\nM 7 0 2\nD 9 0 67\nE 10\n");
 }
 
 #[test]

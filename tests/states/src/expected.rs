@@ -43,7 +43,11 @@ impl Expected {
     /// What the slot of this call meets.
     pub fn meets(&self, (arrival, request): Call) -> Met {
         let Some(buffer) = &self.buffer else { return Met::default() };
-        Met { refill: buffer.refill(arrival, request), tail_full: buffer.tail_is_full() }
+        Met {
+            refill: buffer.refill(arrival, request),
+            tail_full: buffer.tail_is_full(),
+            lookahead: Design::Full.cells(self.sizes),
+        }
     }
 
     /// What the slot of this arrival meets, in which the arbiter chooses; none where the state breaks a rule.

@@ -13,10 +13,9 @@ use crate::guarded::Edge;
 use crate::image::Image;
 use crate::memory::{Memory, RUN_CALLS};
 use crate::picks::{is_large, shallow_sizes, some_call, some_sizes};
-use crate::refilled::Met;
 use crate::seen::{self, Seen};
 use crate::waits::Waits;
-use crate::words::{arbiter_word, call_word, Arrival, Call};
+use crate::words::{arbiter_word, call_word, Arrival, Call, IDLE};
 
 /// How many calls of the library a list has, and how many more for each queue, so that the arbiter comes round to all;
 /// and of large sizes, for the first requests to come through all cells.
@@ -277,8 +276,9 @@ impl List<'_> {
         let lent = self.store_lent();
         let few = self.random.below(2 * self.sizes.b + 1);
         let most = if is_large(self.sizes) { few } else { self.random.pick(&[few, few, 1_000, usize::MAX]) };
+        let met = self.expected.meets(IDLE);
         let stretch = self.expected.idle_in(most, lent);
-        self.seen.listed(stretch.last, Met::default());
+        self.seen.listed(stretch.last, met);
         let store = &mut self.memory.store.slice_mut()[..lent];
         let found = gelwynnar::idle(self.memory.arrays.lent(), most, store);
         self.seen.call(seen::Call::Idle);

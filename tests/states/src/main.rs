@@ -6,8 +6,9 @@
 //! chooses and then steps, with the same slot judged, and as the start of a run, of idle slots and of two margins; for
 //! each twenty of them a list of slots from a fresh state; and sizes. Every array lies against a page that nobody may
 //! touch. Prints how often each fault, each answer, each call, each outcome of a full queue that is read and refilled
-//! (request 2.1), each outcome of the arbiter's choice and its longest waits (request 2.2) came: with 20,000 states or
-//! more too seldom is a failure. The last line is 'N passed, M failed'.
+//! (request 2.1), each outcome of the arbiter's choice and its longest waits (request 2.2), and the fewest and the most
+//! slots left at a read (request 2.6) came: with 20,000 states or more too seldom is a failure. The last line is
+//! 'N passed, M failed'.
 
 mod arbitrated;
 mod difference;

@@ -1,4 +1,4 @@
-//! Slots that read and refill one full queue (request 2.1): what they meet, and what comes of them.
+//! What slots meet; and of those that read and refill one full queue (request 2.1), what comes of them.
 
 use std::fmt;
 
@@ -13,6 +13,8 @@ pub struct Met {
     /// None where the slot does not read and refill one full queue, or the state breaks a rule.
     pub refill: Option<Refill>,
     pub tail_full: bool,
+    /// How many cells there are, or 0 where the state breaks a rule.
+    pub lookahead: usize,
 }
 
 /// What comes of it.

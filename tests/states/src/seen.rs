@@ -1,11 +1,12 @@
 //! How often each answer, each broken rule, each call, each outcome of a full queue that is read and refilled and each
-//! outcome of the arbiter's choice came. What came too seldom has not been tested.
+//! outcome of the arbiter's choice came, and which slots were left at a read. What came too seldom has not been tested.
 
 use std::collections::BTreeMap;
 use std::fmt;
 
 use gelwynnar::{Answer, ArbiterAnswer};
 use second::buffer::Numbers;
+use second::reads::Reads;
 
 use crate::arbitrated::{Arbitrated, Turn};
 use crate::faults::Fault;
@@ -20,6 +21,7 @@ const LEAST_OF_A_NUMBER: usize = 300;
 const LEAST_OF_A_FAULT: usize = 50;
 const LEAST_OF_A_CALL: usize = 1_000;
 const LEAST_OF_A_LONG_WAIT: usize = 50;
+const LEAST_OF_BOTH_ENDS: usize = 5;
 
 /// What an accepted slot can do.
 const MOVES: [&str; 3] = ["delivers", "writes", "reads"];
@@ -144,6 +146,7 @@ const CALLS: [Call; 8] = [
 struct Answers {
     numbers: BTreeMap<Numbers, usize>,
     moves: BTreeMap<&'static str, usize>,
+    reads: Reads,
     refills: BTreeMap<Refilled, usize>,
     turns: BTreeMap<Arbitrated, usize>,
 }
@@ -154,6 +157,7 @@ impl Answers {
         for (name, happened) in MOVES.into_iter().zip([answer.delivers, answer.writes, answer.reads]) {
             *self.moves.entry(name).or_default() += usize::from(happened);
         }
+        self.reads.add(met.lookahead, answer.slots_left as usize);
         if let Some(refilled) = met.comes_to(answer) {
             *self.refills.entry(refilled).or_default() += 1;
         }
@@ -263,6 +267,11 @@ impl Seen {
             for name in MOVES {
                 ask(format!("a {kind} that {name}"), answers.moves.get(name), LEAST_OF_A_NUMBER);
             }
+            let (both_ends, between) = (answers.reads.both_ends(), answers.reads.between());
+            let what = format!("a lookahead at which a {kind} reads with 1 slot left, and one with all");
+            ask(what, Some(&both_ends), LEAST_OF_BOTH_ENDS);
+            let what = format!("a {kind} that reads with more than 1 slot left, and fewer than all");
+            ask(what, Some(&between), LEAST_OF_A_NUMBER);
             for refilled in refills {
                 ask(format!("a {kind} that {refilled}"), answers.refills.get(refilled), LEAST_OF_A_NUMBER);
             }
@@ -314,7 +323,7 @@ impl fmt::Display for Answers {
     fn fmt(&self, out: &mut fmt::Formatter) -> fmt::Result {
         let numbers = listed(&self.numbers, |&numbers| format!("number {}", spoken(numbers)));
         let moves = listed(&self.moves, |name| name.to_string());
-        write!(out, "{numbers}, {moves}, {}", listed(&self.refills, Refilled::to_string))?;
+        write!(out, "{numbers}, {moves}, {}, {}", self.reads, listed(&self.refills, Refilled::to_string))?;
         if !self.turns.is_empty() {
             write!(out, ", {}", listed(&self.turns, Arbitrated::to_string))?;
         }

@@ -67,7 +67,7 @@ pub fn answer(found: buffer::Answer) -> Answer {
         queue: queue as u16,
         written: found.written.unwrap_or(0) as u16,
         read: found.read.unwrap_or(0) as u16,
-        slots_left: 0,
+        slots_left: found.slots_left as u32,
     }
 }
 

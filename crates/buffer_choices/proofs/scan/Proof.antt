@@ -73,13 +73,15 @@ loop-again c =
     (c .if2 .came)
 
 returns : tie.Need-returns Inv-loop μ-loop
-returns c = scan-ends (c .before .before .pre) (c .before .loop .inv) (omega (arith, c .if1 .taken))
+returns c =
+    let inv = c .before .loop .inv in
+    (scan-ends (c .before .before .pre) inv (omega (arith, c .if1 .taken)), inv .within)
 
 returns-2 : tie.Need-returns-2 Inv-loop μ-loop
 returns-2 c =
     let inv = c .before .before .before .before .loop .inv in
     let fits = c .before .before .before .before .before .pre in
-    scan-finds fits inv (omega arith) (omega (arith, c .before .if2 .taken)) (c .if3 .taken)
+    (scan-finds fits inv (omega arith) (omega (arith, c .before .if2 .taken)) (c .if3 .taken), inv .within)
 
 pub scan-spec : {M : Type 1} → statement M
 scan-spec =

@@ -13,7 +13,7 @@ use Rattle.run_words.specs.Words.{callOf, answerWord}
 use Rattle.run_words.proofs.Nearest.{read-slot}
 use Rattle.run_in_place.proofs.Turns.{RunTo, run-starts, run-turn, call-at}
 use Rattle.buffer.specs.Says.{stateOf}
-use Rattle.by_value.proofs.Making.{sizes-refused, drove}
+use Rattle.by_value.proofs.Making.{sizes-refused, word-fits, drove}
 use Rattle.by_value.proofs.by_value_slots.Statement.{statement}
 use Rattle.by_value.proofs.by_value_slots.Tie as tie
 
@@ -89,7 +89,9 @@ slot-requires : tie.Need-slot-requires Inv-loop μ-loop
 slot-requires c κs = search needs
 
 answer-word-requires : tie.Need-answer-word-requires Inv-loop μ-loop
-answer-word-requires c κs = search needs
+answer-word-requires c κs =
+    let slotted = c .before .before .before in
+    word-fits (slotted .slot .ensures)
 
 mul-answers : tie.Need-mul-answers Inv-loop μ-loop
 mul-answers c =

@@ -6,9 +6,9 @@ use Prim.Native.Nat.{ℕ}
 use borrow.Author.Needs.{needs}
 use Rattle.model.specs.Sizes.{paper}
 use Rattle.model.specs.State.{State}
-use Rattle.model.specs.Slot.{Call, isOwed, earlyArrival, lateArrival, joined, asked, wrote, queueToWrite, queueToRead}
+use Rattle.model.specs.Slot.{Call, isOwed, earlyArrival, lateArrival, joined, asked, wrote, queueToWrite, refillOf}
 use Rattle.model.proofs.one_slot.Accepted.{Accepted}
-use Rattle.layout.specs.Calls.{chosenIn, arrivalIn, callIn}
+use Rattle.layout.specs.Calls.{chosenIn, arrivalIn, refillIn, callIn}
 use Rattle.buffer.specs.Says.{stateOf}
 use Rattle.buffer.proofs.InTurn.{can-deliver, can-arrive, can-ask, can-arrive-late, can-write, can-read, can-turn}
 use Rattle.buffer_choices.proofs.InTurn.{judged-accepted, early-told, late-told, owing-told, write-told, read-told}
@@ -110,7 +110,7 @@ written-is c =
 
 read-is : (c : tie.After-to-read)
     → let s = swapping (delivered (early (arrived (told (asking (late (filled (to-be-written (written c))))))))) in
-    chosenIn (c .to-read .result) ≡ queueToRead (wrote (state s) (call s))
+    refillIn (c .to-read .result) ≡ refillOf (wrote (state s) (call s))
 read-is c =
     let v = written c in
     let w = to-be-written v in

@@ -1,6 +1,6 @@
 -- `idle_quiet::move_due` meets its contract: a queue to write settles it, and else the scan does.
 use mathlib.Core.Path.{sym, _∙_}
-use Prim.Native.Nat.{_≤_}
+use Prim.Native.Nat.{_-_, _≤_}
 use native.Mathlib.Omega.{arith}
 use lib.ListN.{length}
 use borrow.Author.Needs.{needs}
@@ -87,9 +87,10 @@ returns-2 c =
     due-to-read (sizesIn (a .regs)) (countsIn (a .tails .now)) (countsIn (a .heads .now))
     (cellsIn (lookahead (sizesIn (a .regs))) (a .cells .now))
     (chosenIn (fullest .fullest-of .result)) (fullest .fullest-of .ensures)
-    (chosenIn (scanned .scan .result .found)) (countsIn (scanned .scan .result .left)) (c .some-queue2 .result)
+    (chosenIn (scanned .scan .result .found)) (scanned .scan .result .place - a .empties)
+    (countsIn (scanned .scan .result .left)) (c .some-queue2 .result)
     (a .empties) (sym (none .if1 .left) ∙ some .some-queue .ensures)
-    (s .pre .5) (scanned .scan .ensures) (c .some-queue2 .ensures)
+    (s .pre .5) (scanned .scan .ensures .0) (c .some-queue2 .ensures)
 
 pub move-due-spec : {M : Type 1} → statement M
 move-due-spec =

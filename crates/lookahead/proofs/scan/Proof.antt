@@ -1,11 +1,13 @@
 -- `scan` meets its contract: before cell i the scan of the cells from `from` on answers as that of the cells from i on
 -- with the credits left, whatever follows; the measure is the number of cells left.
+use mathlib.Core.Path.{_≡_}
 use Prim.Native.Nat.{_-_, _<_}
 use native.Mathlib.Omega.{arith}
+use lib.ListN.{length}
 use borrow.Author.Needs.{needs}
 use Rattle.layout.specs.Lengths.{queuePlaces}
 use Rattle.layout.proofs.Cells.{queueAt, queue-below}
-use Rattle.lookahead.proofs.Turns.{ScannedTo, scan-ends, scan-covers, scan-lacks, scan-empties}
+use Rattle.lookahead.proofs.Turns.{ScannedTo, scan-starts, scan-ends, scan-covers, scan-lacks, scan-empties}
 use Rattle.lookahead.proofs.scan.Statement.{statement}
 use Rattle.lookahead.proofs.scan.Tie as tie
 
@@ -23,7 +25,10 @@ its-queue c =
     queue-below (start .args .cells .now) (start .pre .1) (omega arith) queuePlaces (start .pre .2) (omega arith)
 
 loop-holds : tie.Need-loop-holds Inv-loop μ-loop
-loop-holds c = search needs
+loop-holds c =
+    let start = c .before in
+    let long : length (start .args .credits) ≡ queuePlaces = search needs in
+    scan-starts (start .pre .0) long
 
 mul-c : tie.Need-mul-c Inv-loop μ-loop
 mul-c c = search needs
@@ -92,13 +97,15 @@ loop-again-2 c =
     scan-empties (at .before .before .pre .1) (at .loop .inv) (omega (arith, cell .if2 .left)) (c .past-empties .ensures)
 
 returns : tie.Need-returns Inv-loop μ-loop
-returns c = scan-ends (c .before .before .before .pre .1) (c .before .loop .inv) (c .if1 .taken)
+returns c =
+    let inv = c .before .loop .inv in
+    (scan-ends (c .before .before .before .pre .1) inv (c .if1 .taken), inv .onwards, inv .within)
 
 returns-2 : tie.Need-returns-2 Inv-loop μ-loop
 returns-2 c =
     let inv = c .before .before .before .before .loop .inv in
     let fits = c .before .before .before .before .before .before .pre .1 in
-    scan-lacks fits inv (omega arith) (c .if3 .taken)
+    (scan-lacks fits inv (omega arith) (c .if3 .taken), inv .onwards, inv .within)
 
 pub scan-spec : {M : Type 1} → statement M
 scan-spec =

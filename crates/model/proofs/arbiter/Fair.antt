@@ -34,7 +34,7 @@ use Rattle.model.proofs.one_slot.Chains.{links, chain-keeps, noted-belo
 use Rattle.model.proofs.delay.Line.{line-length}
 use Rattle.model.proofs.delay.IdealSlot.{accepted-is-ideal}
 use Rattle.model.proofs.delay.Delay.{Delays, gives, chain-delays}
-use Rattle.model.proofs.delay.Sentences.{element-at}
+use Rattle.model.proofs.delay.Line.{element-at}
 use Rattle.model.proofs.Demand.{every-chain}
 use Rattle.model.proofs.arbiter.Choice.{unrequested-is-waiting, choice-stays}
 use Rattle.model.proofs.arbiter.Waiting.{ChosenSlots, none-chosen, one-chosen, FrontNow, Served, front-there}

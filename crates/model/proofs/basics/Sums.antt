@@ -1,4 +1,5 @@
--- Sums over the queues 0 to n - 1: monotone, bounded by n times a bound, and changed by what changes at one queue.
+-- Sums over the queues 0 to n - 1: monotone, linear, bounded by n times a bound, and changed by what changes at one
+-- queue.
 use mathlib.Core.Path.{_≡_, refl, ap}
 use mathlib.Core.Bool.{false}
 use Prim.Native.Nat.{ℕ, zero, suc, _+_, _*_, _<_, _≤_}
@@ -27,6 +28,19 @@ sum-le n f g h = omega (arith, sum-le-add n 0 f g (λ q l. omega (arith, h q l))
 pub sum-bound : (n d : ℕ) (f : ℕ → ℕ) → ((q : ℕ) → q < n → f q ≤ d) → sum n f ≤ n * d
 sum-bound n d f h = omega
     (arith, sum-le-add n d f (λ q. 0) (λ q l. omega (arith, h q l)), sum-zero n (λ q. 0) (λ q. refl))
+
+pub sum-same : (n : ℕ) (f g : ℕ → ℕ) → ((q : ℕ) → q < n → f q ≡ g q) → sum n f ≡ sum n g
+sum-same zero f g h = refl
+sum-same (suc n) f g h = omega (arith, h n (omega arith), sum-same n f g (λ q l. h q (omega arith)))
+
+-- A sum of sums, and of multiples.
+pub sum-add : (n : ℕ) (f g : ℕ → ℕ) → sum n (λ q. f q + g q) ≡ sum n f + sum n g
+sum-add zero f g = refl
+sum-add (suc n) f g = omega (arith, sum-add n f g)
+
+pub sum-times : (n k : ℕ) (f : ℕ → ℕ) → sum n (λ q. k * f q) ≡ k * sum n f
+sum-times zero k f = omega arith
+sum-times (suc n) k f = omega (arith, sum-times n k f)
 
 -- Two functions that differ at one queue only, there by the difference of two numbers.
 pub sum-shift : (n : ℕ) (f g : ℕ → ℕ) (q more less : ℕ) → q < n

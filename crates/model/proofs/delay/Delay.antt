@@ -65,7 +65,7 @@ delays-more i step slots long first there d = record {
 
 -- From a state that keeps the rules.
 module _ (design : Design) where
-  line-long : (x : State) (store : List ℕ) → 1 ≤ design .cellCount (x .sizes) → Keeps design x
+  pub line-long : (x : State) (store : List ℕ) → 1 ≤ design .cellCount (x .sizes) → Keeps design x
       → 1 ≤ length (standsFor x store .line)
   line-long x store h v = omega (arith, line-length (stream x store) (x .cells), v .within .cells-long)
 

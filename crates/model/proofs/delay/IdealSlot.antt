@@ -10,7 +10,7 @@ use native.Mathlib.Omega.{arith}
 use lib.Dec.{eqb}
 use lib.ListN.{length, drop, getElem?, length-append, length-drop}
 use lib.Seq.{drop-append-le}
-use borrow.Author.Tests.{ltb-true, ltb-false, le-ltb, ne-eqb}
+use borrow.Author.Tests.{ltb-true, ltb-false, ne-eqb}
 use Rattle.model.specs.Sizes.{Design, storeBytes}
 use Rattle.model.specs.State.{Byte, State, valuesOf, countOf, headBytes, owedCells, blocks}
 use Rattle.model.specs.Slot.{Call, asByte, arriving, isOwed, afterDelivery, afterRequest, afterWrite}
@@ -21,9 +21,8 @@ use Rattle.model.specs.Ideal.{Ideal, waitingWith, nextByteOf, stream, li
 use Rattle.model.proofs.basics.Tests.{by-test, eqb-same}
 use Rattle.model.proofs.basics.Bytes.{count-append}
 use Rattle.model.proofs.one_slot.Rules.{Rules}
-use Rattle.model.proofs.one_slot.StepsKeepRules.{owed-after-delivery}
 use Rattle.model.proofs.one_slot.MovesKeepRules.{WriteTaken, ReadTaken}
-use Rattle.model.proofs.one_slot.Swap.{early-is-none, early-is}
+use Rattle.model.proofs.one_slot.Swap.{early-is-none, early-is, owed-alike}
 use Rattle.model.proofs.one_slot.Accepted.{Judged}
 use Rattle.model.proofs.one_slot.Kept.{rules-2, rules-3, rules-written, write-taken, read-taken}
 use Rattle.model.proofs.delay.Line.{line, waiting, ringValues, first-append}
@@ -86,13 +85,7 @@ module _ (design : Design) (x : State) (store : List ℕ) (call : Call)
 
   -- A request that is Held after the delivery would be Held before it, and so finds its byte in the tail.
   pub held-before : (q : ℕ) → isOwed y₂ q ≡ false → isOwed x q ≡ false
-  held-before q f =
-      le-ltb (owedCells x q) (headBytes x q + x .sizes .b * blocks x q)
-      (omega (
-        arith,
-        owed-after-delivery x q (j .covered),
-        ltb-false (owedCells y₂ q) (headBytes y₂ q + x .sizes .b * blocks x q) f,
-      ))
+  held-before q f = sym (owed-alike x call q (j .covered)) ∙ f
 
   joined-waiting : (q : ℕ) → waiting y₂ store q ≡ waitingWith (waiting x store) early q
   joined-waiting q =

@@ -1,12 +1,13 @@
 -- The line that the cells give: a new youngest cell takes the next byte that the Owed cells leave of its stream, and
--- the line looks no further into a stream than they reach. `line-youngest` and `line-longer` say it.
+-- the line looks no further into a stream than they reach, so that there is a byte in it for each of them.
+-- `line-youngest`, `line-longer` and `line-at-owed` say it.
 use mathlib.Core.Path.{_≡_, refl, ap, _∙_, fun-ext}
 use mathlib.Core.List.{List, [], _∷_, _++_}
 use mathlib.Core.Option.{Option, some, none}
-use Prim.Native.Nat.{ℕ, suc, _+_, _≤_}
+use Prim.Native.Nat.{ℕ, zero, suc, _+_, _<_, _≤_}
 use native.Mathlib.Omega.{arith}
 use lib.Dec.{eqb}
-use lib.ListN.{length, drop, getElem?, length-drop}
+use lib.ListN.{length, drop, getD, getElem?, length-drop}
 use lib.Seq.{drop-append-le, drop-drop}
 use borrow.Author.Tests.{eqb-true}
 use Rattle.model.specs.Basics.{update}
@@ -28,6 +29,12 @@ ringValues x store q = ringBytes (x .sizes) store q (ringOf (x .rings) q .first)
 pub first-append : (xs ys : List ℕ) → 1 ≤ length xs → getElem? (xs ++ ys) 0 ≡ getElem? xs 0
 first-append [] ys h = absurd (omega arith)
 first-append (x ∷ xs) ys h = refl
+
+-- An element that is there.
+pub element-at : (l : List ℕ) (i : ℕ) → i < length l → (v : ℕ) × (getElem? l i ≡ some v)
+element-at [] i h = absurd (omega arith)
+element-at (x ∷ l) zero h = (x, refl)
+element-at (x ∷ l) (suc i) h = element-at l i (omega arith)
 
 pub drop-count : (m n : ℕ) (xs : List ℕ) → m ≡ n → drop m xs ≡ drop n xs
 drop-count m n xs e = ap (λ (k : ℕ). drop k xs) e
@@ -75,6 +82,23 @@ line-youngest streams (owed q ∷ cells) cell =
     used : ℕ → List ℕ
     used = update streams q (drop 1 (streams q))
 
+-- A stream that reaches every Owed cell reaches those behind the first, once that one has taken its byte.
+module _ (streams : ℕ → List ℕ) (q : ℕ) (cells : List Cell)
+    (reach : (p : ℕ) → owedOf p (owed q ∷ cells) ≤ length (streams p)) where
+  pub byte-left : 1 ≤ length (streams q)
+  byte-left = omega (arith, reach q, owed-here q cells)
+
+  pub reach-behind : (p : ℕ) → owedOf p cells ≤ length (update streams q (drop 1 (streams q)) p)
+  reach-behind p =
+      by-test (eqb q p)
+      (λ t. rw t (omega (
+        arith,
+        length-drop 1 (streams q),
+        rw t at (reach p),
+        ap (λ (i : ℕ). length (streams i)) (eqb-true q p t),
+      )))
+      (λ t. rw t (omega (arith, rw t at (reach p))))
+
 -- The line looks no further into a stream than the Owed cells reach.
 pub line-longer : (streams more : ℕ → List ℕ) (cells : List Cell) → ((q : ℕ) → owedOf q cells ≤ length (streams q))
     → lineOf (λ q. streams q ++ more q) cells ≡ lineOf streams cells
@@ -85,9 +109,10 @@ line-longer streams more (held q v ∷ cells) h =
     ap (λ (l : List (Option Byte)). some (byte q v) ∷ l) (line-longer streams more cells (λ p. omega (arith, h p)))
 line-longer streams more (owed q ∷ cells) h =
     ap (λ (o : Option ℕ). asByte q o ∷ lineOf (update both q (drop 1 (both q))) cells)
-    (first-append (streams q) (more q) some-left)
+    (first-append (streams q) (more q) (byte-left streams q cells h))
     ∙ ap (λ (l : List (Option Byte)). asByte q (getElem? (streams q) 0) ∷ l)
-    (ap (λ (f : ℕ → List ℕ). lineOf f cells) (fun-ext split) ∙ line-longer used more cells reach)
+    (ap (λ (f : ℕ → List ℕ). lineOf f cells) (fun-ext split)
+    ∙ line-longer used more cells (reach-behind streams q cells h))
   where
     both : ℕ → List ℕ
     both p = streams p ++ more p
@@ -95,23 +120,27 @@ line-longer streams more (owed q ∷ cells) h =
     used : ℕ → List ℕ
     used = update streams q (drop 1 (streams q))
 
-    some-left : 1 ≤ length (streams q)
-    some-left = omega (arith, h q, owed-here q cells)
-
     split : (p : ℕ) → update both q (drop 1 (both q)) p ≡ used p ++ more p
     split p =
         by-test (eqb q p)
-        (λ t. rw t (drop-append-le 1 (streams q) (more q) some-left
+        (λ t. rw t (drop-append-le 1 (streams q) (more q) (byte-left streams q cells h)
         ∙ ap (λ (i : ℕ). drop 1 (streams q) ++ more i) (eqb-true q p t)))
         (λ t. rw t)
 
-    reach : (p : ℕ) → owedOf p cells ≤ length (used p)
-    reach p =
-        by-test (eqb q p)
-        (λ t. rw t (omega (
-          arith,
-          length-drop 1 (streams q),
-          rw t at (h p),
-          ap (λ (i : ℕ). length (streams i)) (eqb-true q p t),
-        )))
-        (λ t. rw t (omega (arith, rw t at (h p))))
+-- The line has a byte of q wherever the cells have an Owed one of q: it keeps their places, and the streams reach them.
+pub line-at-owed : (streams : ℕ → List ℕ) (cells : List Cell) → ((p : ℕ) → owedOf p cells ≤ length (streams p))
+    → (i q : ℕ) → i < length cells → getD cells i empty ≡ owed q
+    → (v : ℕ) × (getD (lineOf streams cells) i none ≡ some (byte q v))
+line-at-owed streams [] reach i q l e = absurd (omega arith)
+line-at-owed streams (empty ∷ cells) reach zero q l e = absurd (let z : _≡_ {A = ℕ} 0 1 = cc in omega arith)
+line-at-owed streams (empty ∷ cells) reach (suc i) q l e =
+    line-at-owed streams cells (λ p. omega (arith, reach p)) i q (omega arith) e
+line-at-owed streams (held p v ∷ cells) reach zero q l e = absurd (let z : _≡_ {A = ℕ} 0 1 = cc in omega arith)
+line-at-owed streams (held p v ∷ cells) reach (suc i) q l e =
+    line-at-owed streams cells (λ p. omega (arith, reach p)) i q (omega arith) e
+line-at-owed streams (owed p ∷ cells) reach zero q l e =
+    let first = element-at (streams p) 0 (byte-left streams p cells reach) in
+    let same : p ≡ q = cc in
+    (first .0, ap (asByte p) (first .1) ∙ ap (λ (i : ℕ). some (byte i (first .0))) same)
+line-at-owed streams (owed p ∷ cells) reach (suc i) q l e =
+    line-at-owed (update streams p (drop 1 (streams p))) cells (reach-behind streams p cells reach) i q (omega arith) e

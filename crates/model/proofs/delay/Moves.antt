@@ -20,13 +20,12 @@ use Rattle.model.specs.Ideal.{ringBytes, stream, lineOf}
 use Rattle.model.proofs.basics.Tests.{by-test, at-queue, eqb-same}
 use Rattle.model.proofs.basics.Bytes.{values-append, values-for-same, values-for-other, values-without-same}
 use Rattle.model.proofs.basics.Bytes.{values-without-other}
-use Rattle.model.proofs.basics.Cells.{owed-above}
 use Rattle.model.proofs.basics.Rings.{ring-set-same, ring-set-other, place-fits, fewer-blocks}
 use Rattle.model.proofs.one_slot.Rules.{Rules}
 use Rattle.model.proofs.delay.Store.{ring-places-apart, ring-longer, ring-same, block-written, block-untouched}
 use Rattle.model.proofs.delay.Store.{block-numbers-apart}
 use Rattle.model.proofs.delay.Line.{line, waiting, ringValues, line-longer}
-use Rattle.model.proofs.delay.Request.{stream-length}
+use Rattle.model.proofs.delay.Request.{owed-in-stream}
 
 -- 4. The write: the block leaves the tail's front and joins the stream's end, and no other block changes.
 first-in-range : (n : ℕ) (x : State) (q : ℕ) → Rules n x → 1 ≤ x .sizes .K → ringOf (x .rings) q .first < x .sizes .K
@@ -125,14 +124,7 @@ module _ (n : ℕ) (x : State) (q : ℕ) (store : List ℕ) (taken : (q < x .siz
       nothing p t = ap (λ (b : Bool). stream x store p ++ choose b values []) (sym t)
 
   reach : (p : ℕ) → owedCells x p ≤ length (stream x store p)
-  reach p =
-      by-test (ltb p (x .sizes .Q))
-      (λ t. omega (
-        arith,
-        v .backed p (ltb-true p (x .sizes .Q) t),
-        stream-length n x store p (ltb-true p (x .sizes .Q) t) long v,
-      ))
-      (λ t. omega (arith, owed-above (x .sizes .Q) (x .cells) p (v .cells-below) (ltb-false p (x .sizes .Q) t)))
+  reach = owed-in-stream n x store long v
 
   pub line-written : line x′ store′ ≡ line x store
   line-written =

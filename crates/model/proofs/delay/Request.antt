@@ -7,7 +7,7 @@ use mathlib.Core.List.{List, [], _∷_, _++_}
 use mathlib.Core.Option.{Option, some, none}
 use Prim.Native.Nat.{ℕ, _+_, _-_, _*_, _<_, _≤_}
 use native.Mathlib.Omega.{arith}
-use lib.Dec.{eqb}
+use lib.Dec.{eqb, ltb}
 use lib.ListN.{length, drop, getElem?, length-append, length-drop, drop-of-length-le}
 use lib.Seq.{drop-append-le, drop-drop}
 use borrow.Author.Tests.{ltb-true, ltb-false}
@@ -20,7 +20,7 @@ use Rattle.model.specs.Lists.{asks}
 use Rattle.model.specs.Ideal.{nextByteOf, stream, lineOf}
 use Rattle.model.proofs.basics.Tests.{by-test, at-queue, eqb-same}
 use Rattle.model.proofs.basics.Bytes.{values-without-same, values-without-other}
-use Rattle.model.proofs.basics.Cells.{owed-append}
+use Rattle.model.proofs.basics.Cells.{owed-append, owed-above}
 use Rattle.model.proofs.basics.Rings.{block-length}
 use Rattle.model.proofs.one_slot.Rules.{Rules}
 use Rattle.model.proofs.delay.Store.{ring-length}
@@ -37,6 +37,18 @@ stream-length n x store q l h v =
       ring-length (x .sizes) store q (ringOf (x .rings) q .first) (ringOf (x .rings) q .count) (v .firsts q l)
           (λ k m. block-length (x .sizes) store q k l m h),
     )
+
+-- So the stream has a byte for every Owed cell.
+pub owed-in-stream : (n : ℕ) (x : State) (store : List ℕ) → storeBytes (x .sizes) ≤ length store → Rules n x
+    → (q : ℕ) → owedCells x q ≤ length (stream x store q)
+owed-in-stream n x store long v q =
+    by-test (ltb q (x .sizes .Q))
+    (λ t. omega (
+      arith,
+      v .backed q (ltb-true q (x .sizes .Q) t),
+      stream-length n x store q (ltb-true q (x .sizes .Q) t) long v,
+    ))
+    (λ t. omega (arith, owed-above (x .sizes .Q) (x .cells) q (v .cells-below) (ltb-false q (x .sizes .Q) t)))
 
 pub record Asked (x : State) (request : Option ℕ) (store : List ℕ) : Type 0 where
   pub line-is : line (afterRequest request x) store ≡ line x store ++ nextByteOf (waiting x store) request ∷ []

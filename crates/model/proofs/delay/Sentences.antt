@@ -1,12 +1,12 @@
 -- The delay equation, read slot by slot: place t + L of the deliveries is what slot t's request is owed, and the
 -- first L places are nothing. `sentences` says it.
-use mathlib.Core.Path.{_≡_, refl, ap, _∙_}
+use mathlib.Core.Path.{_≡_, ap, _∙_}
 use mathlib.Core.List.{List, [], _∷_, _++_}
-use mathlib.Core.Option.{Option, some, none}
+use mathlib.Core.Option.{Option, none}
 use Prim.Native.Nat.{ℕ, zero, suc, _+_, _<_, _≤_}
 use native.Mathlib.Omega.{arith}
 use lib.Dec.{ltb}
-use lib.ListN.{length, take, replicate, getD, getElem?, length-replicate, length-take, length-append, getD-replicate}
+use lib.ListN.{length, take, replicate, getD, length-replicate, length-take, length-append, getD-replicate}
 use lib.ListN.{List·getD-append, List·getD-eq-default}
 use lib.Seq.{getD-take, getD-append-add}
 use borrow.Author.Tests.{ltb-true, ltb-false}
@@ -18,6 +18,7 @@ use Rattle.model.specs.Lists.{Step, deliveries, arrivalsOf, requestsOf, 
 use Rattle.model.specs.Demand.{FixedDelay, Sentences}
 use Rattle.model.proofs.basics.Tests.{by-test}
 use Rattle.model.proofs.basics.AllOf.{tabulate-at}
+use Rattle.model.proofs.delay.Line.{element-at}
 
 -- The first L places of a line, and the places after them, of what is cut to n places.
 module _ (L n : ℕ) (owed : ℕ → Option Byte) where
@@ -43,12 +44,6 @@ module _ (L n : ℕ) (owed : ℕ → Option Byte) where
       ∙ getD-replicate L t none none l)
       (λ u. List·getD-eq-default line none {n = t}
       (omega (arith, ltb-false t n u, length-take n (replicate L none ++ tabulate n owed))))
-
--- An element that is there.
-pub element-at : (l : List ℕ) (i : ℕ) → i < length l → (v : ℕ) × (getElem? l i ≡ some v)
-element-at [] i h = absurd (omega arith)
-element-at (x ∷ l) zero h = (x, refl)
-element-at (x ∷ l) (suc i) h = element-at l i (omega arith)
 
 arrivals-grow : (q n : ℕ) (slots : List Step) → length (arrivalsOf q (take n slots)) ≤ length (arrivalsOf q slots)
 arrivals-grow q zero slots = omega arith

@@ -21,6 +21,7 @@ use Rattle.model.specs.Calls.{idle}
 use Rattle.model.specs.Idle.{quietly, NothingToMove, Quiet}
 use Rattle.model.proofs.basics.Tests.{by-test}
 use Rattle.model.proofs.meaning.Steps.{move-writes-fullest, no-move-no-write, move-reads-scan, no-move-no-read}
+use Rattle.model.proofs.meaning.Place.{no-read-no-place}
 use Rattle.model.proofs.basics.States.{same-state}
 use Rattle.model.proofs.one_slot.Rules.{Keeps, keeps-holds}
 use Rattle.model.proofs.one_slot.Calls.{reply-is, answer-is}
@@ -126,6 +127,7 @@ module _ (design : Design) (x : State) (store : List ℕ) (kept : Keeps design x
       (reply-is (numberAlone 0) (accept x store idle .reply) refl refl refl
       (ap (λ (cell : Cell). deliveryOf cell (x .head)) leaving)
       none-written
-      none-read)
+      none-read
+      (no-read-no-place (wrote x idle) none-read))
       quiet-state
       (ap (λ (o : Option ℕ). storeWritten o (asked x idle) store) none-written)

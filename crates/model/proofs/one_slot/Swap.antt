@@ -9,7 +9,7 @@ use Prim.Native.Nat.{ℕ, _+_, _-_, _*_, _<_, _≤_}
 use native.Mathlib.Omega.{arith}
 use lib.Dec.{eqb}
 use lib.ListN.{length, length-append}
-use borrow.Author.Tests.{eqb-true, ltb-true, ltb-false, le-ltb, lt-leb, ne-eqb, not-true}
+use borrow.Author.Tests.{eqb-true, ltb-true, ltb-false, le-ltb, lt-ltb, lt-leb, ne-eqb, not-true}
 use Rattle.model.specs.Basics.{choose}
 use Rattle.model.specs.Sizes.{tailSize}
 use Rattle.model.specs.State.{Byte, owed, State, countOf, tailBytes, headBytes, owedCells, blocks}
@@ -93,16 +93,21 @@ module _ (x : State) (call : Call) where
       (λ t. t)
       (λ t. absurd (none-not-some y (sym (late-is-none t) ∙ e)))
 
--- A request that is Held before the oldest cell leaves is Held after it.
-pub held-after : (x : State) (call : Call) (q : ℕ) → leavesUncovered (oldestCell (x .cells)) x ≡ false
-    → isOwed x q ≡ false → isOwed (joined x call) q ≡ false
-held-after x call q covered f =
-    le-ltb (owedCells (afterDelivery x) q) (headBytes (afterDelivery x) q + x .sizes .b * blocks x q)
-    (omega (
-      arith,
-      owed-after-delivery x q covered,
-      ltb-false (owedCells x q) (headBytes x q + x .sizes .b * blocks x q) f,
-    ))
+-- A request is Owed after the oldest cell has left exactly where it was before, and so Held.
+pub owed-alike : (x : State) (call : Call) (q : ℕ) → leavesUncovered (oldestCell (x .cells)) x ≡ false
+    → isOwed (joined x call) q ≡ isOwed x q
+owed-alike x call q covered =
+    by-test (isOwed x q)
+    (λ t. lt-ltb (owedCells y q) (headBytes y q + x .sizes .b * blocks x q)
+    (omega (arith, same, ltb-true (owedCells x q) (headBytes x q + x .sizes .b * blocks x q) t)) ∙ sym t)
+    (λ t. le-ltb (owedCells y q) (headBytes y q + x .sizes .b * blocks x q)
+    (omega (arith, same, ltb-false (owedCells x q) (headBytes x q + x .sizes .b * blocks x q) t)) ∙ sym t)
+  where
+    y : State
+    y = afterDelivery x
+
+    same : owedCells x q + headBytes y q ≡ owedCells y q + headBytes x q
+    same = owed-after-delivery x q covered
 
 -- Of a slot that swaps.
 module _ (x : State) (call : Call) (t : swaps x (call .arrival) (call .request) ≡ true) where
@@ -161,7 +166,7 @@ module _ (x : State) (call : Call) (t : swaps x (call .arrival) (call .request) 
   -- Where 8 does not come, the request takes one of its queue's tail bytes, and so makes room.
   module _ (covered : leavesUncovered (oldestCell (x .cells)) x ≡ false) where
     held-now : isOwed (joined x call) q ≡ false
-    held-now = held-after x call q covered (s .is-held)
+    held-now = owed-alike x call q covered ∙ s .is-held
 
     pub tail-asked : tailLeft (joined x call) (call .request) ≡ without 1 q (x .tail)
     tail-asked =

@@ -1,8 +1,10 @@
 -- `run` meets its contract: what is judged of every slot holds of each in the list, and where 3 and 2 are ruled out the
 -- list is run in place.
 use mathlib.Core.Path.{ap, sym, _∙_}
+use native.Mathlib.Omega.{arith}
 use lib.ListN.{length}
 use borrow.Author.Needs.{needs}
+use Rattle.model.specs.Slot.{Reply}
 use Rattle.layout.specs.Views.{Arrays, arrays, regsIn, stateIn}
 use Rattle.run_words.specs.Words.{answerWord}
 use Rattle.slot_checked.proofs.Judging.{judged-state}
@@ -43,7 +45,7 @@ number-alone-requires : tie.Need-number-alone-requires
 number-alone-requires c κs = search needs
 
 answer-word-requires : tie.Need-answer-word-requires
-answer-word-requires c κs = search needs
+answer-word-requires c κs = omega (arith, ap (λ (r : Reply). r .slotsLeft) (c .number-alone .ensures))
 
 fill-requires : tie.Need-fill-requires
 fill-requires c κs = search needs

@@ -1,10 +1,10 @@
 -- `put_answer` meets its contract: R alone for a slot that was stopped; of one that ran D, then the R of its arrival
--- and of its request.
+-- and of its request, then M.
 use native.Mathlib.Omega.{arith}
 use borrow.Author.Needs.{needs}
 use Rattle.layout.specs.Calls.{replyIn}
 use Rattle.script_slots.proofs.Answers.{refusal-fits, answers-refusal, delivery-fits, arrival-fits}
-use Rattle.script_slots.proofs.Answers.{request-fits, answers-halves}
+use Rattle.script_slots.proofs.Answers.{request-fits, read-fits, answers-running}
 use Rattle.script_slots.proofs.put_answer.Statement.{statement}
 use Rattle.script_slots.proofs.put_answer.Tie as tie
 
@@ -17,6 +17,9 @@ delivered c = c .before .before .before
 
 abbrev arrived : tie.After-put-half-arg2 → tie.After-put-half
 arrived c = c .before .before .before
+
+abbrev asked : tie.After-put-refilled-arg → tie.After-put-half2
+asked c = c .before .before .before
 
 add-count : tie.Need-add-count
 add-count c = omega (arith, c .before .pre .slots-fit)
@@ -62,18 +65,30 @@ put-half-requires-2 c κs =
     request-fits (a .slots) (replyIn (a .reply)) (a .place) _ (at-delivered .before .before .if1 .left) (s .pre)
     (at-delivered .put-delivered .ensures) (at-arrived .put-half .ensures)
 
+put-refilled-requires : tie.Need-put-refilled-requires
+put-refilled-requires c κs =
+    let at-asked = asked c in
+    let at-arrived = arrived (at-asked .before) in
+    let at-delivered = delivered (at-arrived .before) in
+    let s = started (at-delivered .before) in
+    let a = s .args in
+    read-fits (a .slots) (replyIn (a .reply)) (a .place) _ (at-delivered .before .before .if1 .left) (s .pre)
+    (at-delivered .put-delivered .ensures) (at-arrived .put-half .ensures) (at-asked .put-half2 .ensures)
+
 same-length-2 : tie.Need-same-length-2
 same-length-2 c = search needs
 
 returns-2 : tie.Need-returns-2
 returns-2 c =
-    let at-request = c .before .before in
-    let at-arrived = arrived (at-request .before) in
+    let at-read = c .before .before in
+    let at-asked = asked (at-read .before) in
+    let at-arrived = arrived (at-asked .before) in
     let at-delivered = delivered (at-arrived .before) in
     let s = started (at-delivered .before) in
     let a = s .args in
-    answers-halves (a .slots) (replyIn (a .reply)) (a .place) _ (at-delivered .before .before .if1 .left) (s .pre)
-    (at-delivered .put-delivered .ensures) (at-arrived .put-half .ensures) (at-request .put-half2 .ensures)
+    answers-running (a .slots) (replyIn (a .reply)) (a .place) _ (at-delivered .before .before .if1 .left) (s .pre)
+    (at-delivered .put-delivered .ensures) (at-arrived .put-half .ensures) (at-asked .put-half2 .ensures)
+    (at-read .put-refilled .ensures)
 
 pub put-answer-spec : {M : Type 1} → statement M
 put-answer-spec =
@@ -86,5 +101,6 @@ put-answer-spec =
     put-delivered-requires
     put-half-requires
     put-half-requires-2
+    put-refilled-requires
     same-length-2
     returns-2)

@@ -22,7 +22,7 @@ abbrev planned : tie.Else1 → tie.After-decide
 planned c = c .before
 
 abbrev not-refused : tie.After-turn → tie.Else1
-not-refused c = c .before .before .before .before .before
+not-refused c = c .before .before .before .before .before .before
 
 abbrev turned : tie.After-carry → tie.After-turn
 turned c = c .before .before .before .before .before .before .before
@@ -65,7 +65,7 @@ element-copy-out-cell c = search needs
 
 turn-requires : tie.Need-turn-requires
 turn-requires c κs =
-    let accepted = c .before .before .before .before in
+    let accepted = c .before .before .before .before .before in
     let plan = planned accepted in
     let s = start plan in
     let r = s .pre in
@@ -114,7 +114,8 @@ returns-2 c =
         answer-is =
             standing.carried-answer r taken all (plan .decide .result .«arrival_number»)
             (plan .decide .result .«request_number») carried
-            (reply-is _ _ refl refl refl (carried .delivery-is) (all .written-is) (all .read-is)) refl refl
+            (reply-is _ _ refl refl refl (carried .delivery-is) (all .written-is) (all .read-is)
+            (deciding.slots-left-is r (asked-call s) says none)) refl refl
             ∙ deciding.carries r (asked-call s) says none;
         ready = standing.carried-ready r taken all carried
             (deciding.counted r (asked-call s) says none (counted .turn .ensures));

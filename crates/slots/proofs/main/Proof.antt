@@ -1,9 +1,11 @@
 -- `main` is safe, and meets what it owes its parts: it lends a byte more than a script may have and an output that has
 -- room for what any input prints, and hands over to be written exactly the text of what was read.
-use lib.Dec.{lit<, lit≤}
 use borrow.Author.Needs.{needs}
 use Rattle.slots.proofs.main.Statement.{statement}
 use Rattle.slots.proofs.main.Tie as tie
+
+output-room-requires : tie.Need-output-room-requires
+output-room-requires c κs = search needs
 
 slice-aggregate-answer-input : tie.Need-slice-aggregate-answer-input
 slice-aggregate-answer-input c = search needs
@@ -12,7 +14,7 @@ slice-aggregate-answer-input-2 : tie.Need-slice-aggregate-answer-input-2
 slice-aggregate-answer-input-2 c = search needs
 
 answer-input-requires : tie.Need-answer-input-requires
-answer-input-requires c κs = (lit< tt, lit≤ tt)
+answer-input-requires c κs = search needs
 
 slice-aggregate-fail : tie.Need-slice-aggregate-fail
 slice-aggregate-fail c = search needs
@@ -47,6 +49,7 @@ pub main-spec : {M : Type 1} → statement M
 main-spec =
     tie.close
     (tie.spec
+    output-room-requires
     slice-aggregate-answer-input
     slice-aggregate-answer-input-2
     answer-input-requires

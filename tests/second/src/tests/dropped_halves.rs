@@ -16,7 +16,7 @@ use crate::sizes::Design;
 #[test]
 fn a_dropped_arrival_leaves_the_request() {
     let script = [0x10, 1, 2, 1, 0x01, 0, 65, 0x01, 0, 66, 0x03, 0, 67, 0, 0x04, 4, 0, 0x05];
-    assert_eq!(printed(&script), "R 2 5\nD 4 0 65\nE 7\n");
+    assert_eq!(printed(&script), "R 2 5\nM 3 0 1\nD 4 0 65\nE 7\n");
 }
 
 /// The R line of a stopped slot has the number of the slot that would have run.
@@ -26,7 +26,7 @@ fn a_stop_is_the_only_answer_of_its_slot() {
     assert_eq!(printed(&script), "R 1 6\nE 1\n");
 }
 
-/// "A slot's D line comes before its R lines, 5 before 7."
+/// "A slot's D line comes before its R lines, 5 before 7." Its M line comes after them (request 2.6).
 #[test]
 fn the_lines_of_a_slot_in_their_order() {
     #[rustfmt::skip]
@@ -34,7 +34,8 @@ fn the_lines_of_a_slot_in_their_order() {
         0x10, 2, 2, 1, 0x01, 0, 66, 0x01, 1, 67, 0x01, 1, 68, 0x00, 0x01, 0, 70, 0x01, 0, 71,
         0x02, 0, 0x02, 1, 0x02, 1, 0x03, 1, 75, 1, 0x02, 1, 0x05,
     ];
-    assert_eq!(printed(&script), "R 5 5\nD 9 0 66\nR 9 5\nR 9 7\nD 10 1 67\nR 10 7\nE 11\n");
+    let lines = "R 5 5\nM 7 0 2\nD 9 0 66\nR 9 5\nR 9 7\nM 9 1 1\nD 10 1 67\nR 10 7\nE 11\n";
+    assert_eq!(printed(&script), lines);
 }
 
 /// Q 2, b 2, K 1, phase 0: the stored block fills queue 0 and is owed, and queue 1 has nothing. The oldest cell is as
@@ -82,7 +83,7 @@ fn blocks_move_in_a_slot_with_both_halves_dropped() {
     state.rings[0].count = 1;
     state.cells[1] = Cell::Owed(0);
     let mut store = [11, 12, 0, 0, 0, 0];
-    let expected = Answer { written: Some(1), read: Some(0), ..moves_nothing([0, 5, 7]) };
+    let expected = Answer { written: Some(1), read: Some(0), slots_left: 1, ..moves_nothing([0, 5, 7]) };
     assert_eq!(slot(&mut state, ARRIVAL, Some(2), &mut store), expected);
     assert_eq!((state.phase, state.head), (0, vec![(0, 11), (0, 12)]));
     assert_eq!((state.tail, store), (vec![], [11, 12, 6, 7, 0, 0]));

@@ -30,7 +30,7 @@ fn a_script_that_swaps() {
 fn a_script_whose_request_would_be_owed() {
     let mut script = SWAPS.to_vec();
     script.remove(4);
-    assert_eq!(printed(&script), "R 2 5\nD 4 0 65\nE 7\n");
+    assert_eq!(printed(&script), "R 2 5\nM 3 0 1\nD 4 0 65\nE 7\n");
 }
 
 /// Q 1, b 2, K 1, phase 0, both bytes of the queue in the tail.

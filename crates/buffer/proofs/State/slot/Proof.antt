@@ -37,7 +37,7 @@ abbrev planned : tie.Else1 → tie.After-plan
 planned c = c .before
 
 abbrev accepted : tie.After-deliver → tie.Else1
-accepted c = c .before .before .before
+accepted c = c .before .before .before .before
 
 abbrev delivered : tie.After-arrive → tie.After-deliver
 delivered c = c .before .before .before
@@ -69,7 +69,7 @@ taken c = callIn (planned c .plan .result .arrival) (planned c .plan .result .re
 
 decision : (c : tie.Else1) → Decided (stateOf (state (start (planned c)))) (store (start (planned c)))
     (taken c) (planned c .plan .result .owes) (planned c .plan .result .swaps)
-    (chosenIn (planned c .plan .result .written)) (chosenIn (planned c .plan .result .read))
+    (chosenIn (planned c .plan .result .written)) (chosenIn (planned c .plan .result .refill .queue))
 decision c = planned c .plan .ensures .decided (c .if1 .left) (store (start (planned c))) refl
 
 plan-requires : tie.Need-plan-requires
@@ -91,7 +91,7 @@ element-copy-out-cell c = search needs
 
 deliver-requires : tie.Need-deliver-requires
 deliver-requires c κs =
-    let on = c .before .before in
+    let on = c .before .before .before in
     let s = start (planned on) in
     let long = arrays-long s in (
       omega (arith, steps.head-in (state s .regs) (arraysOf (state s)) long (decision on)),
@@ -277,7 +277,8 @@ returns-2 c =
     let plan = planned on .plan in
     carried-says (state s) (store s) (call s) (taken on) (plan .result .«arrival_number»)
     (plan .result .«request_number») (plan .ensures .carries (on .if1 .left) (store s) refl)
-    (reply-is _ _ refl refl refl (steps.delivered regs m long d early s1 s2) (d .written-is) (d .read-is))
+    (reply-is _ _ refl refl refl (steps.delivered regs m long d early s1 s2) (d .written-is) (d .read-is)
+    (plan .ensures .slots-left-is (on .if1 .left)))
     (steps.state-after regs m long d early s1 s2 s3 s4 late s5 s6 s7
     (phase .next-phase .ensures)
     (tail-mark .larger .ensures)

@@ -68,7 +68,7 @@ pub struct Answer {
     pub queue: u16,
     pub written: u16,
     pub read: u16,
-    /// At a read, in how many slots the cell leaves that asked for it: 1 to L; 0 where nothing is read.
+    /// At a read, in how many slots the cell leaves that the block was for, 1 to L; else 0.
     pub slots_left: u32,
 }
 

@@ -1,6 +1,6 @@
 // What the steps of a slot must be told, of any state by value: whether the slot swaps, whether a request is Owed, the
-// queue to write, the queue to read and its slots left. With the steps in turn they make the slot. Sizes, fills and queue numbers may
-// be anything: every number is read as some state.
+// queue to write, the queue to read and its slots left. With the steps in turn they make the slot. Sizes, fills and
+// queue numbers may be anything: every number is read as some state.
 ghost use mathlib.Core.Path.{_≡_};
 ghost use mathlib.Core.Option.{some};
 ghost use Prim.Native.Nat.{ℕ, _+_, _-_, _*_, _≤_, min};

@@ -32,8 +32,8 @@ use layout::TAIL_PLACES;
 use layout::TailArray;
 
 // What a slot answers. Where `number` is not 0 all else is 0. `dropped` is 1 where the arrival was dropped (5), 2 where
-// the request was (7), 3 where both were, else 0. `slots_left` says at a read in how many slots the cell leaves that it
-// was for.
+// the request was (7), 3 where both were, else 0. `slots_left` says at a read in how many slots the cell leaves that
+// the block was for, 1 to L, and is 0 where nothing is read.
 #[repr(C)]
 pub struct Answer {
     pub number: u8,

@@ -37,7 +37,8 @@ pub struct Refill {
     pub slots_left: u16,
 }
 
-// The choice of a queue for the cell at a place, the oldest being 1; where there is none it has no place.
+// The choice of a queue for the cell at a place, the oldest being 1. Without a queue the place is not looked at, and slots
+// left are 0.
 pub fn refill_at(queue: Chosen, place: usize) -> Refill
     requires { ⌜ place < 65536 ⌝ }
     ensures { λ r. ⌜ refillIn r ≡ refillAt (chosenIn queue) place ⌝ }

@@ -165,11 +165,12 @@ requestExamples =
     request 0 ⇒ drops 0 7 taken ∷ arrival 0 67 ⇒ taken delivering byte 0 66 ∷ arrival 0 68 ⇒ writes 0 ∷
     idle ⇒ taken ∷ request 0 ⇒ reads 0 2 ∷ idle ⇒ taken ∷ idle ⇒ taken delivering byte 0 67 ∷ []) ∷
     -- Q 2, b 3, so that L is 5, a block of each queue stored: the first cell that lacks its byte leaves in 4 slots, and
-    -- when the next one is read for in 2.
+    -- the next one, when it is read for, in 2.
     slots paper (made (sizes 2 3 1) phase 1 tail [] head [] cells (replicate 5 empty) blocks (1 ∷ 1 ∷ []))
     (request 1 ⇒ taken ∷ request 0 ⇒ reads 1 4 ∷ idle ⇒ taken ∷ idle ⇒ taken ∷ idle ⇒ reads 0 2 ∷
     idle ⇒ taken delivering byte 1 0 ∷ idle ⇒ taken delivering byte 0 0 ∷ []) ∷
-    -- A cell that its head byte covers is passed: the read is for the second of queue 0, which leaves two slots later.
+    -- A cell that its head byte covers is passed: the read is for the second of queue 0, which leaves two slots after it
+    -- and so in 3.
     slots paper (made (sizes 2 2 1) phase 1 tail [] head (byte 0 65 ∷ []) cells (held 1 66 ∷ owed 0 ∷ empty ∷ [])
     blocks (1 ∷ 0 ∷ []))
     (request 0 ⇒ reads 0 3 delivering byte 1 66 ∷ idle ⇒ taken delivering byte 0 65 ∷ idle ⇒ taken ∷

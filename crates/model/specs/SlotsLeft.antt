@@ -13,12 +13,13 @@ use Rattle.model.specs.Lists.{Step, accepted, deliveries, requestAt}
 use Rattle.model.specs.Chains.{Chain}
 
 -- The nth of some cells, the oldest being 1, is "the first Owed cell that its queue's head bytes do not cover", and
--- that queue is q: a scan of the cells before it finds none.
+-- that queue is q: a scan of the cells before it finds none, and one that goes as far as it finds q.
 pub record FirstUncovered (credits : ℕ → ℕ) (cells : List Cell) (q n : ℕ) : Type 0 where
   pub at-least-1 : 1 ≤ n
   pub within : n ≤ length cells
   pub is-owed : getD cells (n - 1) empty ≡ owed q
   pub none-before : refillQueue credits (take (n - 1) cells) ≡ none
+  pub uncovered : refillQueue credits (take n cells) ≡ some q
 
 -- Of one slot.
 pub record SlotsLeftSay (design : Design) : Type 0 where
@@ -34,7 +35,8 @@ pub record SlotsLeftSay (design : Design) : Type 0 where
   pub cell-that-waits :
       (x : State) (store : List ℕ) (call : Call) (q : ℕ) → slot design x store call .reply .read ≡ some q
       → getD (slot design x store call .state .cells) (slot design x store call .reply .slotsLeft - 1) empty ≡ owed q
-  -- "So 1 to L": to the number of cells, which is L in the paper's design.
+  -- "So 1 to L": to the number of cells, which is L in the paper's design. (There is none only with one cell fewer and
+  -- b = 1.)
   pub one-to-L :
       (x : State) (store : List ℕ) (call : Call) (q : ℕ) → 1 ≤ design .cellCount (x .sizes)
       → slot design x store call .reply .read ≡ some q
@@ -52,8 +54,8 @@ pub record ReadsAt (slots : List Step) (t q n : ℕ) : Type 0 where
   pub read-is : step .reply .read ≡ some q
   pub left-is : step .reply .slotsLeft ≡ n
 
--- "In how many slots the uncovered cell leaves": accepted slot t + n delivers a byte of q, if the list has one; so from
--- every state that keeps the rules. And from a fresh state the request that the read is for was in slot t + n - L.
+-- "In how many slots the uncovered cell leaves": accepted slot t + n delivers a byte of q, if the list has that slot; so
+-- from every state that keeps the rules. And from a fresh state the request that the read is for was in slot t + n - L.
 pub record LeavesThen (limits : Limits) : Type 0 where
   pub delivers-then :
       (x : State) (store : List ℕ) (steps : List Step) (last : State)

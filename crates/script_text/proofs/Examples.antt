@@ -115,7 +115,7 @@ unfolding scriptLines judge judgeFrom decimal lineText
 half-scripts-print = refl
 
 -- Request 2.6, "a line `M t q n` for each read (slot, queue, slots left)": Q 1, b 2, where the read is for the slot's
--- own request, which leaves L slots later; and Q 1, b 3, where it is in the second of five idle slots that are one
+-- own request, whose byte leaves L slots later; and Q 1, b 3, where it is in the second of five idle slots that are one
 -- command, and the byte in the third.
 abbrev refillScripts : List Example
 refillScripts =

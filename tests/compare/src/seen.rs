@@ -23,7 +23,7 @@ pub const USUAL_SCRIPTS: u64 = 4_000;
 const LEAST_SWAPS: usize = 1_000;
 const LEAST_OF_A_SLOT: usize = 500;
 /// A read seldom comes with a dropped request: blocks are in store where there is much to ask for.
-const LEAST_OF_A_READ: usize = 10;
+const LEAST_OF_A_READ_AND_7: usize = 10;
 const LEAST_OF_BOTH_ENDS: usize = 10;
 
 #[derive(Default)]
@@ -72,7 +72,8 @@ impl Seen {
 
     /// What slots had too seldom, of as many scripts as usual.
     pub fn too_seldom(&self) -> Vec<String> {
-        let least = |lines: &str| if lines.ends_with('M') { LEAST_OF_A_READ } else { LEAST_OF_A_SLOT };
+        let read_and_7 = |lines: &str| lines.ends_with("R 7, M");
+        let least = |lines: &str| if read_and_7(lines) { LEAST_OF_A_READ_AND_7 } else { LEAST_OF_A_SLOT };
         let rare = |lines: &String| self.slots.get(lines).map_or(true, |&times| times < least(lines));
         let mut all: Vec<String> = kinds_of_slots().into_iter().filter(rare).collect();
         if self.swaps < LEAST_SWAPS {

@@ -1,6 +1,6 @@
 -- The place that the scan tells beside its queue (request 2.6) is that of one cell: the cell there is Owed to the
--- queue, and a scan of those before it finds none, so that it is the first that lacks its byte. Both go by the same
--- recursion.
+-- queue, a scan of those before it finds none, and one that goes as far as it finds the queue, so that it is the first
+-- that lacks its byte. Both go by the same recursion.
 -- `place-of-the-queue` and `place-none` say it, of a state `read-place` and `no-read-no-place`.
 use mathlib.Core.Path.{_≡_, refl, ap, sym, _∙_}
 use mathlib.Core.Bool.{true, false}
@@ -52,6 +52,7 @@ record FoundAt (c : ℕ → ℕ) (cells : List Cell) (q : ℕ) : Type 0 where
   within : index < length cells
   is-owed : getD cells index empty ≡ owed q
   none-before : refillQueue c (take index cells) ≡ none
+  uncovered : refillQueue c (take (suc index) cells) ≡ some q
 
 -- One cell in front, which the scan passes.
 passes : (c d : ℕ → ℕ) (cell : Cell) (cells : List Cell) (q : ℕ)
@@ -64,6 +65,7 @@ passes c d cell cells q on skips f = record {
   within = omega (arith, f .within);
   is-owed = f .is-owed;
   none-before = skips (take (f .index) cells) ∙ f .none-before;
+  uncovered = skips (take (suc (f .index)) cells) ∙ f .uncovered;
 }
 
 found-at : (c : ℕ → ℕ) (cells : List Cell) (q : ℕ) → refillQueue c cells ≡ some q → FoundAt c cells q
@@ -78,6 +80,7 @@ found-at c (owed p ∷ cells) q e =
       within = omega arith;
       is-owed = ap owed (some-inj p q (sym (scan-stops c p cells z) ∙ e));
       none-before = refl;
+      uncovered = scan-stops c p [] z ∙ sym (scan-stops c p cells z) ∙ e;
     })
     (λ u. passes c (update c p (c p - 1)) (owed p) cells q (place-goes-on c p cells u)
     (λ rest. scan-goes-on c p rest u)
@@ -93,6 +96,7 @@ place-of-the-queue c cells q e =
       within = omega (arith, f .place-is, f .within);
       is-owed = ap (λ (k : ℕ). getD cells k empty) i ∙ f .is-owed;
       none-before = ap (λ (k : ℕ). refillQueue c (take k cells)) i ∙ f .none-before;
+      uncovered = ap (λ (k : ℕ). refillQueue c (take k cells)) (f .place-is) ∙ f .uncovered;
     }
 
 pub place-within : (c : ℕ → ℕ) (cells : List Cell) → refillPlace c cells ≤ length cells

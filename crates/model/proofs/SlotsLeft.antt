@@ -13,12 +13,12 @@ use lib.ListN.{length, replicate, getD, length-replicate, getD-replicate, List·
 use lib.Seq.{getD-take, getD-append-add}
 use borrow.Author.Tests.{leb-true, leb-false}
 use Rattle.model.specs.Sizes.{Sizes, Limits, Design, accepts, lookahead, full}
-use Rattle.model.specs.State.{Byte, byte, empty, owed, State, fresh, keeps}
+use Rattle.model.specs.State.{Byte, byte, State, fresh, headBytes, keeps}
 use Rattle.model.specs.Slot.{Call, wrote, halvesTaken, Answer, slot}
 use Rattle.model.specs.Lists.{Step, accepted, deliveries, requestAt}
 use Rattle.model.specs.Chains.{Chain}
 use Rattle.model.specs.Ideal.{Ideal, standsFor}
-use Rattle.model.specs.SlotsLeft.{SlotsLeftSay, ReadsAt, LeavesThen}
+use Rattle.model.specs.SlotsLeft.{FirstUncovered, SlotsLeftSay, ReadsAt, LeavesThen}
 use Rattle.model.proofs.basics.Tests.{by-test, none-not-some}
 use Rattle.model.proofs.meaning.Place.{place-of-the-queue, place-none, read-place, no-read-no-place}
 use Rattle.model.proofs.one_slot.Rules.{keeps-facts, keeps-fresh}
@@ -31,14 +31,15 @@ use Rattle.model.proofs.Demand.{stands-fresh}
 
 -- Of one slot: a refused one reads nothing, and of an accepted one it is the law of its state when it reads.
 module _ (design : Design) (x : State) (store : List ℕ) (call : Call) where
-  cell-that-waits : (q : ℕ) → slot design x store call .reply .read ≡ some q
-      → getD (slot design x store call .state .cells) (slot design x store call .reply .slotsLeft - 1) empty ≡ owed q
+  abbrev Waits : ℕ → Answer → Type 0
+  Waits q a = FirstUncovered (headBytes (wrote x (halvesTaken x call))) (a .state .cells) q (a .reply .slotsLeft)
+
+  cell-that-waits : (q : ℕ) → slot design x store call .reply .read ≡ some q → Waits q (slot design x store call)
   cell-that-waits q e = go (slot design x store call) (outcome design x store call) e
     where
-      go : (a : Answer) → RefusedOrAccepted design x store call a → a .reply .read ≡ some q
-          → getD (a .state .cells) (a .reply .slotsLeft - 1) empty ≡ owed q
+      go : (a : Answer) → RefusedOrAccepted design x store call a → a .reply .read ≡ some q → Waits q a
       go a (was-refused n r) e = absurd (none-not-some q e)
-      go a (was-accepted f) e = read-place (wrote x (halvesTaken x call)) q e .is-owed
+      go a (was-accepted f) e = read-place (wrote x (halvesTaken x call)) q e
 
   one-to-L : (q : ℕ) → 1 ≤ design .cellCount (x .sizes) → slot design x store call .reply .read ≡ some q
       → (1 ≤ slot design x store call .reply .slotsLeft)

@@ -7,8 +7,8 @@ use mathlib.Core.Option.{some, none}
 use Prim.Native.Nat.{ℕ, _+_, _-_, _≤_, _<_}
 use lib.ListN.{length, take, getD, getElem?}
 use Rattle.model.specs.Sizes.{Sizes, Limits, Design, accepts, lookahead, full}
-use Rattle.model.specs.State.{byte, Cell, empty, owed, State, fresh, keeps}
-use Rattle.model.specs.Slot.{Call, refillQueue, refillPlace, slot}
+use Rattle.model.specs.State.{byte, Cell, empty, owed, State, fresh, headBytes, keeps}
+use Rattle.model.specs.Slot.{Call, refillQueue, refillPlace, wrote, halvesTaken, slot}
 use Rattle.model.specs.Lists.{Step, accepted, deliveries, requestAt}
 use Rattle.model.specs.Chains.{Chain}
 
@@ -30,11 +30,12 @@ pub record SlotsLeftSay (design : Design) : Type 0 where
       → FirstUncovered credits cells q (refillPlace credits cells)
   pub no-place :
       (credits : ℕ → ℕ) (cells : List Cell) → refillQueue credits cells ≡ none → refillPlace credits cells ≡ 0
-  -- "Counted after the slot's own delivery": among the cells that the slot leaves, so that the oldest of them, which
-  -- leaves in the next slot, counts 1.
+  -- "Counted after the slot's own delivery": the uncovered cell's place among the cells that the slot leaves, so that
+  -- the oldest of them, which leaves in the next slot, counts 1. The head bytes are those that the read finds.
   pub cell-that-waits :
       (x : State) (store : List ℕ) (call : Call) (q : ℕ) → slot design x store call .reply .read ≡ some q
-      → getD (slot design x store call .state .cells) (slot design x store call .reply .slotsLeft - 1) empty ≡ owed q
+      → FirstUncovered (headBytes (wrote x (halvesTaken x call))) (slot design x store call .state .cells) q
+      (slot design x store call .reply .slotsLeft)
   -- "So 1 to L": to the number of cells, which is L in the paper's design. (There is none only with one cell fewer and
   -- b = 1.)
   pub one-to-L :

@@ -31,7 +31,7 @@ add sub mul pow div mod zip fold bytes update choose decimal""".split())
 OTHERWISE = {
     "after-end": "after_the_end",
     "cell_below": "cell_below_lem",
-    "cells-in": "cells_within",
+    "cells-in": "cells_inside",
     "state-of": "state_from",
 }
 
@@ -45,8 +45,9 @@ def texts(kinds):
     for folder, folders, files in os.walk(CRATES):
         folders[:] = sorted(f for f in folders if f != "out")
         for name in sorted(files):
-            if name.endswith(kinds):
-                yield os.path.join(folder, name)
+            path = os.path.join(folder, name)
+            if path.endswith(kinds):
+                yield path
 
 
 def read(path):
@@ -60,7 +61,7 @@ def without_comments(text):
 
 def is_of_a_function(path):
     """Whether the file is in the proof of one Rust function."""
-    return bool(re.search(r"/proofs/.+/[^/]+\.antt$", path))
+    return bool(re.search(r"/proofs/.+/(Proof|Answers|Invariants)\.antt$", path))
 
 
 def table():
@@ -198,6 +199,7 @@ def after():
         if new != text:
             with open(path, "w", encoding="utf-8") as f:
                 f.write(new)
+    ask_for_tactics()
     for page in ["README.md", *sorted(os.path.join("docs", f) for f in os.listdir(os.path.join(ROOT, "docs")) if f.endswith(".md"))]:
         path = os.path.join(ROOT, page)
         text = read(path)
@@ -205,6 +207,18 @@ def after():
         if new != text:
             with open(path, "w", encoding="utf-8") as f:
                 f.write(new)
+
+
+def ask_for_tactics():
+    """Writes the line that has the check try tactics above the first item of each crate."""
+    for path in texts(("/lib.rt", "/main.rt")):
+        text = read(path)
+        if "tactic(auto)" not in text:
+            lines = text.split("\n")
+            at = next((i for i, line in enumerate(lines) if line and not line.startswith("//")), len(lines) - 1)
+            lines[at:at] = ["#![tactic(auto)]", ""]
+            with open(path, "w", encoding="utf-8") as f:
+                f.write("\n".join(lines))
 
 
 def turn_edit(text, names):

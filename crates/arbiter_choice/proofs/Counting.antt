@@ -11,7 +11,7 @@ use native.Mathlib.Omega.{arith}
 use Rattle.model.specs.Basics.{choose}
 use Rattle.model.specs.State.{Byte, byte}
 use Rattle.model.specs.Arbiter.{queue_after, first_from}
-use Rattle.model.proofs.basics.Rounds.{next-below}
+use Rattle.model.proofs.basics.Rounds.{next_below}
 use Rattle.layout.specs.Counts.{by_queue}
 use Rattle.layout.specs.Figures.{Figures, figures_in}
 use Rattle.layout.specs.declared.Regs.{Regs}
@@ -65,7 +65,7 @@ module _ (f : Figures) (last : ℕ) (arrival counted : Option Byte) where
   pub looks_start : last < f.sizes.Q → {q : ℕ} → q ≡ queue_after f.sizes.Q last
       → LooksOn f last counted q f.sizes.Q
   looks_start l e = record {
-    below = rw e (next-below f.sizes.Q last (omega (arith, l)));
+    below = rw e (next_below f.sizes.Q last (omega (arith, l)));
     same = ap (first_from f.sizes.Q test f.sizes.Q) e;
   }
 
@@ -100,6 +100,6 @@ module _ (f : Figures) (last : ℕ) (arrival counted : Option Byte) where
   pub looks_on : {q n p : ℕ} → 0 < n → false ≡ test q → p ≡ queue_after f.sizes.Q q → LooksOn f last counted q n
       → LooksOn f last counted p (n - 1)
   looks_on {q} {n} l t e v = record {
-    below = rw e (next-below f.sizes.Q q (omega (arith, v.below)));
+    below = rw e (next_below f.sizes.Q q (omega (arith, v.below)));
     same = ap (first_from f.sizes.Q test (n - 1)) e ∙ tested n q l t ∙ v.same;
   }

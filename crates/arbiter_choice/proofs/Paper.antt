@@ -11,8 +11,8 @@ use Rattle.model.specs.Basics.{choose}
 use Rattle.model.specs.State.{Byte, State, count_of, tail_bytes, head_bytes, owed_cells, blocks}
 use Rattle.model.specs.Slot.{arriving, is_full}
 use Rattle.model.specs.Arbiter.{counted_arrival, can_be_asked, queue_after, choice}
-use Rattle.model.proofs.basics.Tests.{by-test}
-use Rattle.model.proofs.basics.Rounds.{next-below, first_alike}
+use Rattle.model.proofs.basics.Tests.{by_test}
+use Rattle.model.proofs.basics.Rounds.{next_below, first_alike}
 use Rattle.layout.specs.Figures.{figures_of}
 use Rattle.slot_refusals.specs.Says.{owes_now, arrives_at}
 use Rattle.arbiter_choice.specs.Says.{counted_now, can_ask_now, choice_now}
@@ -21,7 +21,7 @@ use Rattle.arbiter_choice.specs.Says.{counted_now, can_ask_now, choice_now}
 one_arrives : (arrival : Option Byte) (q : ℕ) → count_of q (arriving arrival) ≡ choose (arrives_at arrival q) 1 0
 one_arrives none q = refl
 one_arrives (some y) q =
-    by-test (eqb y.queue q)
+    by_test (eqb y.queue q)
     (λ t. rw t)
     (λ t. rw t)
 
@@ -30,8 +30,8 @@ counted_alike : (x : State) (arrival : Option Byte) (q : ℕ) → q < x.sizes.Q
     → arrives_at (counted_now (figures_of x) arrival) q ≡ arrives_at (counted_arrival x arrival) q
 counted_alike x none q l = refl
 counted_alike x (some y) q l =
-    by-test (leb x.sizes.Q y.queue)
-    (λ t. rw t (by-test (is_full x y.queue)
+    by_test (leb x.sizes.Q y.queue)
+    (λ t. rw t (by_test (is_full x y.queue)
     (λ u. rw u)
     (λ u. rw u (sym (not-q (leb-true x.sizes.Q y.queue t))))))
     (λ t. rw t)
@@ -45,7 +45,7 @@ some_there : (n m k : ℕ) (owing coming : Bool) → owing ≡ ltb 0 n → k ≡
 some_there n m k true coming e f =
     sym (lt-ltb 0 (n + m + k) (omega (arith, ltb-true 0 n (sym e))))
 some_there n m k false coming e f =
-    by-test (ltb 0 m)
+    by_test (ltb 0 m)
     (λ t. rw t (sym (lt-ltb 0 (n + m + k) (omega (arith, ltb-true 0 m t)))))
     (λ t. rw t (last coming f (omega (arith, ltb-false 0 n (sym e), ltb-false 0 m t))))
   where
@@ -67,7 +67,7 @@ can_ask_is x arrival q l =
 
     more : ltb (owed_cells x q) have ≡ ltb 0 (have - owed_cells x q)
     more =
-        by-test (ltb (owed_cells x q) have)
+        by_test (ltb (owed_cells x q) have)
         (λ t. t ∙ sym (lt-ltb 0 (have - owed_cells x q) (omega (arith, ltb-true (owed_cells x q) have t))))
         (λ t. t ∙ sym (le-ltb 0 (have - owed_cells x q) (omega (arith, ltb-false (owed_cells x q) have t))))
 
@@ -75,6 +75,6 @@ pub choice-is : (x : State) (arrival : Option Byte) → x.last_asked < x.sizes.Q
     → choice_now (figures_of x) x.last_asked arrival ≡ choice x arrival
 choice-is x arrival l =
     first_alike x.sizes.Q (can_ask_now (figures_of x) (counted_now (figures_of x) arrival)) (can_be_asked x arrival)
-    x.sizes.Q (queue_after x.sizes.Q x.last_asked) (next-below x.sizes.Q x.last_asked
+    x.sizes.Q (queue_after x.sizes.Q x.last_asked) (next_below x.sizes.Q x.last_asked
     (omega (arith, l)))
     (λ q k. can_ask_is x arrival q k)

@@ -9,10 +9,10 @@ use Rattle.model.specs.State.{Byte, State}
 use Rattle.model.specs.Slot.{Call, Answer, slot}
 use Rattle.model.specs.Lists.{taken}
 use Rattle.model.specs.Arbiter.{choice, arbiter_call, last_after, noting}
-use Rattle.model.proofs.basics.Tests.{none-not-some}
+use Rattle.model.proofs.basics.Tests.{none_not_some}
 use Rattle.model.proofs.one_slot.Rules.{keeps-facts, keeps-holds, keeps-noted}
 use Rattle.model.proofs.one_slot.Kept.{slot_kept}
-use Rattle.model.proofs.one_slot.Chains.{own-notes-nothing, choice-below}
+use Rattle.model.proofs.one_slot.Chains.{own_notes_nothing, choice-below}
 use Rattle.layout.specs.Calls.{request_in}
 use Rattle.layout.specs.Counts.{ByQueue}
 use Rattle.layout.specs.declared.Request.{Request}
@@ -84,12 +84,12 @@ module _ {regs : Regs} {m : Arrays} {counts : ByQueue} {store : List ℕ} (r : R
     last_is : regs₁.last_asked ≡ regs.last_asked
     last_is =
         ap (λ (a : Answer). a.state.last_asked) answers
-        ∙ sym (ap (λ (a : Answer). a.state.last_asked) (own-notes-nothing paper x store call))
+        ∙ sym (ap (λ (a : Answer). a.state.last_asked) (own_notes_nothing paper x store call))
 
     same-queues : regs₁.queues ≡ regs.queues
     same-queues =
         ap (λ (a : Answer). a.state.sizes.Q) answers
-        ∙ ap (λ (s : Sizes). s.Q) (slot_kept paper x store call (omega arith) (standing.kept r)).same_sizes
+        ∙ ap (λ (s : Sizes). s.Q) (slot_kept paper x store call (omega arith) (standing.kept r)).same-sizes
 
     noted-below : (o : Option ℕ) → ((q : ℕ) → o ≡ some q → q < regs.queues)
         → last_after 0 o regs₁.last_asked < regs₁.queues
@@ -98,7 +98,7 @@ module _ {regs : Regs} {m : Arrays} {counts : ByQueue} {store : List ℕ} (r : R
 
     asked-below : (k : ℕ) (q : ℕ) → taken k (choice x arrival) ≡ some q → q < regs.queues
     asked-below zero q e = choice-below x arrival q (standing.kept r).last_below e
-    asked-below (suc k) q e = absurd (none-not-some q e)
+    asked-below (suc k) q e = absurd (none_not_some q e)
 
     -- All together: with the queue noted that was asked.
     pub composed : {regs' : Regs} (told : Request) → request_in told ≡ asked → regs' ≡ noted (request_in told) regs₁

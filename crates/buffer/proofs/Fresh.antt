@@ -5,7 +5,7 @@ use Prim.Native.Nat.{ℕ}
 use lib.ListN.{get_or}
 use Rattle.model.specs.Basics.{choose, when}
 use Rattle.model.specs.Sizes.{sizes, paper_limits, accepts}
-use Rattle.model.proofs.basics.Tests.{true-not-false}
+use Rattle.model.proofs.basics.Tests.{true_not_false}
 use Rattle.layout.specs.Lengths.{cell_places}
 use Rattle.layout.specs.Entries.{cell_of}
 use Rattle.layout.proofs.Fresh.{empty_at, fresh_in}
@@ -28,6 +28,6 @@ pub made_none : (q b k : ℕ) (r : Made) → accepts paper_limits (sizes q b k) 
 made_none q b k r e n s = record {
   number_is = n ∙ sym (ap (λ (t : Bool). when (not t) 1) e);
   record_is = s ∙ sym (ap (λ (t : Bool). choose t (fresh_state q b k) (fresh_state 0 0 0)) e);
-  fresh-is = λ f. absurd (true-not-false (accepts paper_limits (sizes q b k)) f e);
+  fresh-is = λ f. absurd (true_not_false (accepts paper_limits (sizes q b k)) f e);
   cells_empty = λ i l. ap (λ (z : code.State). cell_of (get_or z.cells i 0)) s ∙ empty_at cell_places i;
 }

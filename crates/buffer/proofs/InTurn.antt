@@ -13,15 +13,15 @@ use Rattle.model.specs.Slot.{Call, Answer, oldest_cell, delivery, after_delivery
 use Rattle.model.specs.Slot.{tail_left, early_arrival, late_arrival, queue_to_write, after_write, store_written, queue_to_read}
 use Rattle.model.specs.Slot.{Refill, refill_of, after_read, after_phase, joined, asked}
 use Rattle.model.specs.Slot.{wrote, wrote_store, refilled, carried_out}
-use Rattle.model.proofs.basics.Limits.{within-limits}
-use Rattle.model.proofs.basics.Rings.{fewer-blocks}
+use Rattle.model.proofs.basics.Limits.{within_limits}
+use Rattle.model.proofs.basics.Rings.{fewer_blocks}
 use Rattle.model.proofs.one_slot.Rules.{Rules}
-use Rattle.model.proofs.one_slot.StepsKeepRules.{length-tail-left}
+use Rattle.model.proofs.one_slot.StepsKeepRules.{length-tail_left}
 use Rattle.model.proofs.one_slot.Accepted.{Judged, Accepted}
-use Rattle.model.proofs.one_slot.Kept.{length-head-without, length-tail-written, tail_joined, tail-asked-fits}
-use Rattle.model.proofs.one_slot.Kept.{write-taken, read_taken, rules-3, rules-written, still-long}
+use Rattle.model.proofs.one_slot.Kept.{length-head_without, length-tail_written, tail_joined, tail_asked_fits}
+use Rattle.model.proofs.one_slot.Kept.{write_taken, read_taken, rules-3, rules-written, still_long}
 use Rattle.model.proofs.one_slot.Calls.{reply_is, answer-is}
-use Rattle.model.proofs.delay.IdealSlot.{held-before}
+use Rattle.model.proofs.delay.IdealSlot.{held_before}
 use Rattle.layout.proofs.States.{same-state}
 use Rattle.buffer.specs.OneStep.{opened, closed, CachesFit, DeliverAsks, AskAsks, WriteAsks, ReadAsks}
 use Rattle.buffer.proofs.OneStep.{without-last}
@@ -42,16 +42,16 @@ module _ (x : State) (store : List ℕ) (call : Call) where
     some_cell = omega arith
 
     head_fits' : length (opened x).head ≤ head_size x.sizes
-    head_fits' = omega (arith, length-head-without (oldest_cell x.cells) x.head, j.kept.head_fits)
+    head_fits' = omega (arith, length-head_without (oldest_cell x.cells) x.head, j.kept.head_fits)
 
     tail_arrived : length (joined x call).tail ≤ tail_size x.sizes
     tail_arrived = tail_joined paper x store call some_cell j
 
     tail_left_lem : length (tail_left (joined x call) call.request) ≤ tail_size x.sizes
-    tail_left_lem = omega (arith, tail_arrived, length-tail-left (joined x call) call.request)
+    tail_left_lem = omega (arith, tail_arrived, length-tail_left (joined x call) call.request)
 
     tail_asked_lem : length (asked x call).tail ≤ tail_size x.sizes
-    tail_asked_lem = tail-asked-fits paper x store call some_cell j
+    tail_asked_lem = tail_asked_fits paper x store call some_cell j
 
     pub deliver_can : DeliverAsks x
     deliver_can = record {
@@ -76,7 +76,7 @@ module _ (x : State) (store : List ℕ) (call : Call) where
     ask_can owes test = record {
       fits = record { sizes-ok = j.kept.sizes-ok; tail_fits = tail_arrived; head_fits = head_fits' };
       owes_is = λ q e. test q e ∙ sym (same q);
-      byte-there = λ q e f. j.byte-there q e (held-before paper x store call some_cell j q (sym (same q) ∙ f));
+      byte-there = λ q e f. j.byte-there q e (held_before paper x store call some_cell j q (sym (same q) ∙ f));
     }
       where
         same : (q : ℕ) → is_owed (closed (after_arrival (early_arrival x call) (opened x))) q ≡ is_owed (joined x call) q
@@ -96,8 +96,8 @@ module _ (x : State) (store : List ℕ) (call : Call) where
       block_there = λ q e. (taken q e).1;
       first_in = λ q e. rules.firsts q (taken q e).0;
       ring-room = λ q e.
-          fewer-blocks (tail_bytes (asked x call) q) x.sizes.b (blocks (asked x call) q) x.sizes.K
-          (within-limits paper.limits x.sizes j.kept.sizes-ok).b-low (taken q e).1
+          fewer_blocks (tail_bytes (asked x call) q) x.sizes.b (blocks (asked x call) q) x.sizes.K
+          (within_limits paper.limits x.sizes j.kept.sizes-ok).b_low (taken q e).1
           (rules.room q (taken q e).0);
     }
       where
@@ -105,16 +105,16 @@ module _ (x : State) (store : List ℕ) (call : Call) where
         rules = rules-3 paper x store call some_cell j
 
         taken : (q : ℕ) → w ≡ some q → (q < x.sizes.Q) × (x.sizes.b ≤ tail_bytes (asked x call) q)
-        taken = write-taken (asked x call)
+        taken = write_taken (asked x call)
 
     pub read_can : ReadAsks (wrote x call) (queue_to_read (wrote x call)) (wrote_store x store call)
     read_can = record {
       fits = record {
         sizes-ok = j.kept.sizes-ok;
-        tail_fits = omega (arith, tail_asked_lem, length-tail-written (asked x call) w);
+        tail_fits = omega (arith, tail_asked_lem, length-tail_written (asked x call) w);
         head_fits = head_fits';
       };
-      store_long = still-long paper x store call some_cell j;
+      store_long = still_long paper x store call some_cell j;
       known = λ q e. (taken q e).0;
       block_there = λ q e. (taken q e).1;
       first_in = λ q e. rules.firsts q (taken q e).0;

@@ -82,11 +82,11 @@ module _ (s : code.State) where
         fill_within s.regs.head_fill s.head
         (omega (arith, fits.head_fits, head_below_array x.sizes fits.sizes-ok, long))
 
-    pub cells_within_lem : length s.cells ≡ cell_places → span x.sizes < length s.cells
-    cells_within_lem long = omega (arith, limits.span-high, long)
+    pub cells_inside : length s.cells ≡ cell_places → span x.sizes < length s.cells
+    cells_inside long = omega (arith, limits.span_high, long)
 
     oldest : length s.cells ≡ cell_places → oldest_cell x.cells ≡ cell_of (get_or s.cells 0 0)
-    oldest long = oldest_cell_lem (lookahead x.sizes) s.cells (omega arith) (omega (arith, cells_within_lem long))
+    oldest long = oldest_cell_lem (lookahead x.sizes) s.cells (omega arith) (omega (arith, cells_inside long))
 
     -- 1. A leaving Owed cell has a head byte of its queue.
     pub byte-to_deliver : length s.cells ≡ cell_places → leaves_uncovered (oldest_cell x.cells) x ≡ false
@@ -145,7 +145,7 @@ module _ (s : code.State) where
         same-state x.sizes refl
         (says.tail_is ∙ asked-tail (closed x) request owes test)
         refl
-        (youngest_stored (span x.sizes) s.cells a.cell (cells_within_lem long)
+        (youngest_stored (span x.sizes) s.cells a.cell (cells_inside long)
         ∙ ap (λ (c : Cell). (closed x).cells ++ c ∷ []) (says.cell_is ∙ asked-cell (closed x) request owes test))
         refl refl refl refl
 

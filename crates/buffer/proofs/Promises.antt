@@ -13,9 +13,9 @@ use Rattle.model.specs.State.{State, keeps}
 use Rattle.model.specs.Slot as model
 use Rattle.model.specs.Slot.{Call, number_alone, Answer, wrote_store, halves_taken, refusal, carried_out, accept, refuse}
 use Rattle.model.specs.Slot.{answer, slot}
-use Rattle.model.proofs.basics.Tests.{by-test}
+use Rattle.model.proofs.basics.Tests.{by_test}
 use Rattle.model.proofs.one_slot.Rules.{keeps-facts, keeps-holds}
-use Rattle.model.proofs.one_slot.Accepted.{RefusedOrAccepted, was-refused, was_accepted, outcome, refusal-told}
+use Rattle.model.proofs.one_slot.Accepted.{RefusedOrAccepted, was_refused, was_accepted, outcome, refusal-told}
 use Rattle.model.proofs.one_slot.Kept.{Kept, slot_kept}
 use Rattle.model.proofs.one_slot.Calls.{answer-is}
 use Rattle.layout.specs.Calls.{call_in, reply_in}
@@ -35,13 +35,13 @@ use Rattle.buffer.specs.Says.{state_of, JudgeSays, answer_of, SlotSays, StepSays
 module _ (x : State) (bytes : ℕ) (call : Call) {p : Plan} (says : PlanCheckedSays x bytes call p) where
   number_rules_out : (p.number ≡ 3 → ⊥) → (p.number ≡ 2 → ⊥)
       → (keeps paper x ≡ true) × (store_bytes x.sizes ≤ bytes)
-  number_rules_out not_3 not_2 =
-      by-test (keeps paper x)
-      (λ t. by-test (ltb bytes (store_bytes x.sizes))
-      (λ u. absurd (not_2 (number ∙ ap (λ (a : Answer). a.reply.number)
+  number_rules_out not-3 not-2 =
+      by_test (keeps paper x)
+      (λ t. by_test (ltb bytes (store_bytes x.sizes))
+      (λ u. absurd (not-2 (number ∙ ap (λ (a : Answer). a.reply.number)
       (two x store call t (omega (arith, long, ltb-true bytes (store_bytes x.sizes) u))))))
       (λ u. (t, ltb-false bytes (store_bytes x.sizes) u)))
-      (λ t. absurd (not_3 (number ∙ ap (λ (a : Answer). a.reply.number) (three x store call t))))
+      (λ t. absurd (not-3 (number ∙ ap (λ (a : Answer). a.reply.number) (three x store call t))))
     where
       store : List ℕ
       store = replicate bytes 0
@@ -83,7 +83,7 @@ module _ (x : State) (bytes : ℕ) (call : Call) {p : Plan} (says : PlanCheckedS
     request-number_is = λ _ store l. ap (λ (a : Answer). a.reply.request_number) (says.carries z store l);
     left_is = λ _. says.left_is z;
     stopped_is = λ f. absurd (f refl);
-    can_step = λ not_3 not_2. number_rules_out (λ e. omega (arith, e, z)) (λ e. omega (arith, e, z));
+    can_step = λ not-3 not-2. number_rules_out (λ e. omega (arith, e, z)) (λ e. omega (arith, e, z));
   }
 
 pub judged_clear : {x : State} (store : List ℕ) {call : Call} {r : Judged} → JudgeSays x (length store) call r
@@ -112,7 +112,7 @@ refused-slot : (x : State) (store : List ℕ) (call : Call) {n : ℕ} → n ≡ 
 refused-slot x store call {n} e f = go (slot paper x store call) (outcome paper x store call) e
   where
     go : (a : Answer) → RefusedOrAccepted paper x store call a → n ≡ a.reply.number → refuse n x store ≡ a
-    go a (was-refused m e) z = ap (λ (k : ℕ). refuse k x store) z
+    go a (was_refused m e) z = ap (λ (k : ℕ). refuse k x store) z
     go a (was_accepted e) z = absurd (f z)
 
 pub refused_says : (s : code.State) (store : List ℕ) (call : Call) {n : ℕ} {told : Reply}
@@ -144,7 +144,7 @@ pub step_says : {s : code.State} {store : List ℕ} {call : Call} {r : Slotted} 
 step_says {s} {store} {call} {r} {store'} v kept = record {
   says = v;
   kept = keeps-holds paper (state_of r.state) left.kept;
-  same_sizes = left.same_sizes;
+  same-sizes = left.same-sizes;
   same_length = left.same_length;
 }
   where

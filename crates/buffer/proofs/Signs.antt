@@ -8,7 +8,7 @@ use lib.IntN.{ℤ, pos, negsuc, ◌-ℤ◌}
 use lib.Signed.{mag, lt_z}
 use borrow.Author.Tests.{ltb-true, ltb-false, lt-ltb, le-ltb}
 use Rattle.model.specs.State.{State, head_bytes, owed_cells, margin}
-use Rattle.model.proofs.basics.Tests.{by-test, true-not-false}
+use Rattle.model.proofs.basics.Tests.{by_test, true_not_false}
 use Rattle.model.proofs.meaning.Margin.{critical-is}
 use Rattle.buffer.specs.OneStep.{MarginSays}
 
@@ -23,8 +23,8 @@ difference_down h (suc o) l = rw (lt-ltb h (suc o) l)
 
 zero_means_equal : (h o : ℕ) → pos h -ℤ pos o ≡ pos 0 → h ≡ o
 zero_means_equal h o e =
-    by-test (ltb h o)
-    (λ t. absurd (true-not-false (lt_z (pos h -ℤ pos o) (pos 0))
+    by_test (ltb h o)
+    (λ t. absurd (true_not_false (lt_z (pos h -ℤ pos o) (pos 0))
     (ap (λ (z : ℤ). lt_z z (pos 0)) (difference_down h o (ltb-true h o t)))
     (ap (λ (z : ℤ). lt_z z (pos 0)) e ∙ le-ltb 0 0 (omega arith))))
     (λ t. let low : o ≤ h = omega (arith, ltb-false h o t) in
@@ -32,11 +32,11 @@ zero_means_equal h o e =
 
 above_means_more : (h o : ℕ) → lt_z (pos 0) (pos h -ℤ pos o) ≡ ltb o h
 above_means_more h o =
-    by-test (ltb h o)
+    by_test (ltb h o)
     (λ t. ap (lt_z (pos 0)) (difference_down h o (ltb-true h o t)) ∙ sym (le-ltb o h (omega (arith, ltb-true h o t))))
     (λ t. let low : o ≤ h = omega (arith, ltb-false h o t) in
     ap (lt_z (pos 0)) (difference_up h o low)
-    ∙ by-test (ltb o h)
+    ∙ by_test (ltb o h)
     (λ u. lt-ltb 0 (h - o) (omega (arith, ltb-true o h u)) ∙ sym u)
     (λ u. le-ltb 0 (h - o) (omega (arith, ltb-false o h u)) ∙ sym u))
 

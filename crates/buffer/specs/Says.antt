@@ -71,5 +71,5 @@ pub record SlotSays (s : code.State) (store : List ℕ) (call : Call) (r : Slott
 pub record StepSays (s : code.State) (store : List ℕ) (call : Call) (r : Slotted) (store' : List ℕ) : Type 0 where
   pub says : SlotSays s store call r store'
   pub kept : keeps paper (state_of r.state) ≡ true
-  pub same_sizes : (state_of r.state).sizes ≡ (state_of s).sizes
+  pub same-sizes : (state_of r.state).sizes ≡ (state_of s).sizes
   pub same_length : length store' ≡ length store

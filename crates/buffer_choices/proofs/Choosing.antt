@@ -11,13 +11,13 @@ use lib.ListN.{length}
 use Rattle.model.specs.Sizes.{lookahead}
 use Rattle.model.specs.State.{count_of}
 use Rattle.model.specs.Slot.{fullest, queue_to_write, Refill, refill_by, no_refill, refill_of}
-use Rattle.model.proofs.meaning.Steps.{move-writes-fullest, no-move-no-write}
-use Rattle.model.proofs.meaning.Place.{move-refills, no-move-no-refill}
+use Rattle.model.proofs.meaning.Steps.{move_writes_fullest, no_move_no_write}
+use Rattle.model.proofs.meaning.Place.{move_refills, no_move_no_refill}
 use Rattle.layout.specs.Lengths.{tail_places, head_places, cell_places}
 use Rattle.layout.specs.Entries.{bytes_in, counts_in, cells_in}
 use Rattle.layout.specs.declared.Regs.{Regs}
 use Rattle.layout.specs.Views.{Arrays, sizes_in, state_in}
-use Rattle.buffer_margin.proofs.Counting.{bytes-within, cells_within_lem}
+use Rattle.buffer_margin.proofs.Counting.{bytes-within, cells_within}
 use Rattle.buffer_choices.specs.Says.{TallyOfAll}
 
 -- Counts of the first entries of an array, as many as the fill says and the array has, are those of the fill.
@@ -38,10 +38,10 @@ module _ (regs : Regs) (m : Arrays) where
       is
       ∙ ap (λ (f : ℕ → ℕ). fullest regs.block f regs.queues)
       (counts_are regs.tail_fill tail_places n counts m.tail long e w)
-      ∙ sym (move-writes-fullest (state_in regs m) t)
+      ∙ sym (move_writes_fullest (state_in regs m) t)
 
   pub none_written : eqb regs.phase (regs.block - 1) ≡ false → none ≡ queue_to_write (state_in regs m)
-  none_written t = sym (no-move-no-write (state_in regs m) t)
+  none_written t = sym (no_move_no_write (state_in regs m) t)
 
   pub read_chosen : eqb regs.phase (regs.block - 1) ≡ true → length m.head ≡ head_places
       → length m.cells ≡ cell_places
@@ -54,9 +54,9 @@ module _ (regs : Regs) (m : Arrays) where
       ∙ ap (λ (c : ℕ → ℕ). refill_by c (cells_in l m.cells))
       (counts_are regs.head_fill head_places n counts m.head long e w)
       ∙ ap (refill_by (λ (q : ℕ). count_of q (bytes_in regs.head_fill m.head)))
-      (ap (λ (k : ℕ). cells_in k m.cells) f ∙ cells_within_lem (lookahead (sizes_in regs)) cell_places
+      (ap (λ (k : ℕ). cells_in k m.cells) f ∙ cells_within (lookahead (sizes_in regs)) cell_places
       m.cells cells_long)
-      ∙ sym (move-refills (state_in regs m) t)
+      ∙ sym (move_refills (state_in regs m) t)
 
   pub none_read : eqb regs.phase (regs.block - 1) ≡ false → no_refill ≡ refill_of (state_in regs m)
-  none_read t = sym (no-move-no-refill (state_in regs m) t)
+  none_read t = sym (no_move_no_refill (state_in regs m) t)

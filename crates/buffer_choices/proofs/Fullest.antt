@@ -11,7 +11,7 @@ use lib.Dec.{leb}
 use lib.ListN.{length, get_or}
 use borrow.Author.Tests.{lt-ltb, le-ltb, le-leb, lt-leb, leb-true, leb-false}
 use Rattle.model.specs.Slot.{fuller, fullest}
-use Rattle.model.proofs.basics.Tests.{by-test}
+use Rattle.model.proofs.basics.Tests.{by_test}
 use Rattle.layout.specs.Entries.{counts_in}
 
 -- How many bytes a queue must have to be taken: b, and then one more than the fullest so far.
@@ -37,7 +37,7 @@ module _ (b : ℕ) (bytes : ℕ → ℕ) (i : ℕ) where
   -- After one queue at least, a queue without bytes is never taken.
   pub least_low : 1 ≤ least_of b bytes (fullest b bytes (suc i))
   least_low =
-      by-test (leb (least_of b bytes (fullest b bytes i)) (bytes i))
+      by_test (leb (least_of b bytes (fullest b bytes i)) (bytes i))
       (λ t. let enough : least_of b bytes (fullest b bytes i) ≤ bytes i =
       leb-true (least_of b bytes (fullest b bytes i)) (bytes i) t in
       rw (next_fuller (fullest b bytes i) enough) (omega arith))
@@ -63,7 +63,7 @@ module _ (b : ℕ) (bytes : ℕ → ℕ) (m : ℕ) (some-queue : 1 ≤ m) (none-
 
   pub fullest-within : (n : ℕ) → fullest b bytes (min n m) ≡ fullest b bytes n
   fullest-within n =
-      by-test (leb n m)
+      by_test (leb n m)
       (λ t. ap (fullest b bytes) (min-eq_left (leb-true n m t)))
       (λ t. let past : m ≤ n = omega (arith, leb-false n m t) in
       let e : (n - m) + m ≡ n = omega arith in

@@ -15,7 +15,7 @@ use Rattle.model.specs.Sizes.{paper}
 use Rattle.model.specs.State.{Byte, Cell, empty, State, owed_of, head_bytes, blocks}
 use Rattle.model.specs.Slot.{Call, after_arrival, is_owed, swaps, early_arrival, late_arrival, after_request}
 use Rattle.model.specs.Slot.{queue_to_write, after_write, store_written, Refill, refill_of, joined, asked, wrote}
-use Rattle.model.proofs.basics.Cells.{owed-append}
+use Rattle.model.proofs.basics.Cells.{owed_append}
 use Rattle.model.proofs.one_slot.Accepted.{Accepted, accepted-facts}
 use Rattle.layout.specs.Calls.{chosen_in, arrival_in, request_in, refill_in, call_in}
 use Rattle.layout.specs.declared.Arrival.{Arrival}
@@ -40,7 +40,7 @@ closed-owes x cells e q = ap (λ (n : ℕ). ltb n (head_bytes x q + x.sizes.b * 
         ap (λ (cs : List Cell). owed_of q (take (length cs - 1) cs)) e
         ∙ ap (owed_of q) (without-last cells empty)
         ∙ (let more : owed_of q cells ≡ owed_of q (cells ++ empty ∷ []) =
-        omega (arith, owed-append q cells (empty ∷ [])) in more)
+        omega (arith, owed_append q cells (empty ∷ [])) in more)
         ∙ sym (ap (owed_of q) e)
 
 -- The arrivals that are told to join before and after the request are the model's.

@@ -13,7 +13,7 @@ use borrow.Author.Tests.{ltb-true, ltb-false, lt-ltb, le-ltb, leb-true, leb-fals
 use Rattle.model.specs.Sizes.{lookahead}
 use Rattle.model.specs.State.{count_of, owed_of, head_bytes, owed_cells}
 use Rattle.model.specs.Slot.{is_owed}
-use Rattle.model.proofs.basics.Tests.{by-test, by_zero}
+use Rattle.model.proofs.basics.Tests.{by_test, by_zero}
 use Rattle.layout.specs.Lengths.{head_places, cell_places}
 use Rattle.layout.specs.Entries.{bytes_in, cells_in}
 use Rattle.layout.proofs.Entries.{bytes-length}
@@ -23,23 +23,23 @@ use Rattle.lookahead.proofs.Turns.{owed_at_most}
 use Rattle.layout.specs.declared.Regs.{Regs}
 use Rattle.layout.specs.Views.{Arrays, sizes_in, state_in}
 use Rattle.layout.specs.Figures.{blocks_in}
-use Rattle.buffer_margin.proofs.Counting.{bytes-within, cells_within_lem}
+use Rattle.buffer_margin.proofs.Counting.{bytes-within, cells_within}
 use Rattle.buffer.proofs.Signs.{difference_up, difference_down}
 use Rattle.buffer_choices.proofs.Stored.{blocks-are}
 
 -- Two tests that hold together.
 same_test : (a b c d : ℕ) → (a < b → c < d) → (b ≤ a → d ≤ c) → ltb a b ≡ ltb c d
 same_test a b c d f g =
-    by-test (ltb a b)
+    by_test (ltb a b)
     (λ t. t ∙ sym (lt-ltb c d (f (ltb-true a b t))))
     (λ t. t ∙ sym (le-ltb c d (g (ltb-false a b t))))
 
 above_zero : (h o s : ℕ) → lt_z (pos 0) ((pos h -ℤ pos o) +ℤ pos s) ≡ ltb o (h + s)
 above_zero h o s =
-    by-test (ltb h o)
+    by_test (ltb h o)
     (λ t. let less : h < o = ltb-true h o t in
     ap (λ (z : ℤ). lt_z (pos 0) (z +ℤ pos s)) (difference_down h o less)
-    ∙ by-test (ltb s (suc (o - suc h)))
+    ∙ by_test (ltb s (suc (o - suc h)))
     (λ u. rw u (sym (le-ltb o (h + s) (omega (arith, less, ltb-true s (suc (o - suc h)) u)))))
     (λ u. rw u (same_test 0 (s - suc (o - suc h)) o (h + s) (λ a. omega (arith, less, a)) (λ a.
     omega (arith, less, ltb-false s (suc (o - suc h)) u, a)))))
@@ -50,7 +50,7 @@ above_zero h o s =
 -- A block counts for 2,018 bytes at most: with one block that is more than there are cells.
 block_enough : (b n o h : ℕ) → o ≤ cell_places → ltb o (h + min b 2018 * n) ≡ ltb o (h + b * n)
 block_enough b n o h low =
-    by-test (leb b 2018)
+    by_test (leb b 2018)
     (λ t. ap (λ (k : ℕ). ltb o (h + k * n)) (min-eq_left (leb-true b 2018 t)))
     (λ t. let large : 2018 ≤ b = omega (arith, leb-false b 2018 t) in
     ap (λ (k : ℕ). ltb o (h + k * n)) (min-eq_right large)
@@ -74,16 +74,16 @@ module _ (q n : ℕ) (xs : List ℕ) where
   owed_low long =
       omega (
         arith,
-        ap (owed_of q) (cells_within_lem n cell_places xs long),
+        ap (owed_of q) (cells_within n cell_places xs long),
         owed_at_most q (cells_in (min n cell_places) xs),
         cells_length (min n cell_places) xs (omega (arith, long)),
       )
 
 pub sum_fits : (h o s : ℕ) → h ≤ head_places → o ≤ cell_places → s ≤ 514590 → mag ((pos h -ℤ pos o) +ℤ pos s) < 2 ^ 31
 sum_fits h o s f g k =
-    by-test (ltb h o)
+    by_test (ltb h o)
     (λ t. rw (difference_down h o (ltb-true h o t))
-    (by-test (ltb s (suc (o - suc h))) (λ u. rw u (omega arith)) (λ u. rw u (omega arith))))
+    (by_test (ltb s (suc (o - suc h))) (λ u. rw u (omega arith)) (λ u. rw u (omega arith))))
     (λ t. rw (difference_up h o (ltb-false h o t)) (omega arith))
 
 -- The test of the code is the paper's.

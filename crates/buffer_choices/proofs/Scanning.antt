@@ -8,7 +8,7 @@ use native.Mathlib.Omega.{arith}
 use lib.ListN.{length, drop, set, get_or, length-set, drop_of_length-le}
 use Rattle.model.specs.State.{owed}
 use Rattle.model.specs.Slot.{refill_place, refill_by, no_refill, onward}
-use Rattle.model.proofs.meaning.Place.{refill-stops, refill-goes-on, onward-on, places-on-none}
+use Rattle.model.proofs.meaning.Place.{refill_stops, refill_goes_on, onward-on, places_on_none}
 use Rattle.layout.specs.Entries.{counts_in, cells_in}
 use Rattle.layout.specs.Calls.{refill_at}
 use Rattle.layout.proofs.Counts.{counts_stored}
@@ -24,7 +24,7 @@ pub scan_starts : (l : ℕ) (xs credits : List ℕ) → length credits ≡ 256 �
 scan_starts l xs credits long = record {
   within = omega arith;
   long = long;
-  goes_on = rw (places-on-none (refill_place (counts_in credits) (cells_in l xs)));
+  goes_on = rw (places_on_none (refill_place (counts_in credits) (cells_in l xs)));
 }
 
 module _ {i l : ℕ} {xs credits left : List ℕ} (fits : l ≤ length xs) (w : ScannedTo i l xs credits left) where
@@ -61,7 +61,7 @@ module _ {i l : ℕ} {xs credits left : List ℕ} (fits : l ≤ length xs) (w : 
           → refill_by (counts_in left) (drop i (cells_in l xs)) ≡ record { queue = some (queue_at xs i); slots_left = 1 }
       unfolding counts_in
       stops_here uncovered =
-          rw owed_next (refill-stops (counts_in left) (queue_at xs i) (drop (i + 1) (cells_in l xs)) uncovered)
+          rw owed_next (refill_stops (counts_in left) (queue_at xs i) (drop (i + 1) (cells_in l xs)) uncovered)
 
       pub scan_finds : get_or left (queue_at xs i) 0 ≡ 0
           → refill_at (some (queue_at xs i)) (i + 1) ≡ refill_by (counts_in credits) (cells_in l xs)
@@ -81,4 +81,4 @@ module _ {i l : ℕ} {xs credits left : List ℕ} (fits : l ≤ length xs) (w : 
             owed_next,
             counts_stored left (queue_at xs i) (get_or left (queue_at xs i) 0 - 1) (omega (arith, w.long)),
           )
-          (refill-goes-on (counts_in left) (queue_at xs i) (drop (i + 1) (cells_in l xs)) covered))
+          (refill_goes_on (counts_in left) (queue_at xs i) (drop (i + 1) (cells_in l xs)) covered))

@@ -7,7 +7,7 @@ use lib.Dec.{ltb}
 use lib.ListN.{length, get_or}
 use borrow.Author.Tests.{ltb-true, ltb-false, lt-ltb, le-ltb}
 use Rattle.model.specs.State.{ring_of}
-use Rattle.model.proofs.basics.Tests.{by-test}
+use Rattle.model.proofs.basics.Tests.{by_test}
 use Rattle.layout.specs.Entries.{counts_in}
 use Rattle.layout.specs.Views.{rings_in}
 use Rattle.layout.specs.Figures.{blocks_in}
@@ -19,7 +19,7 @@ module _ (queues : ℕ) (stored : List ℕ) (q : ℕ) where
   blocks-past h = rw (le-ltb q queues h)
 
   pub blocks-beyond : length stored ≤ q → blocks_in queues stored q ≡ 0
-  blocks-beyond h = by-test (ltb q queues) (λ t. rw (t, counts_past stored q h)) (λ t. rw t)
+  blocks-beyond h = by_test (ltb q queues) (λ t. rw (t, counts_past stored q h)) (λ t. rw t)
 
   pub blocks-known : q < queues → blocks_in queues stored q ≡ get_or stored q 0
   unfolding counts_in
@@ -28,7 +28,7 @@ module _ (queues : ℕ) (stored : List ℕ) (q : ℕ) where
   -- They are those of the state's ring.
   pub blocks-are : (firsts : List ℕ) → blocks_in queues stored q ≡ (ring_of (rings_in queues firsts stored) q).count
   blocks-are firsts =
-      by-test (ltb q queues)
+      by_test (ltb q queues)
       (λ t. rw (t, ring-at queues firsts stored q (ltb-true q queues t)))
       (λ t. rw (t, ring-past queues firsts stored q (ltb-false q queues t)))
 

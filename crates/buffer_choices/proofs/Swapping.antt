@@ -13,8 +13,8 @@ use lib.ListN.{length, get_or}
 use borrow.Author.Tests.{eqb-true, eqb-false, eq-eqb, ne_eqb, lt-ltb}
 use Rattle.model.specs.State.{Byte, byte, State, tail_bytes, blocks}
 use Rattle.model.specs.Slot.{is_owed, is_full, swap_tests, swaps}
-use Rattle.model.proofs.basics.Tests.{by-test, eqb_same}
-use Rattle.model.proofs.basics.AllOf.{all-true-not}
+use Rattle.model.proofs.basics.Tests.{by_test, eqb_same}
+use Rattle.model.proofs.basics.AllOf.{all_true_not}
 use Rattle.layout.specs.Lengths.{tail_places}
 use Rattle.layout.specs.Entries.{bytes_in, counts_in}
 use Rattle.layout.specs.declared.Regs.{Regs}
@@ -44,7 +44,7 @@ module _ (n k b d : ℕ) where
 
     pub whole_blocks_full : eqb (n / b + k) d ≡ eqb (n + b * k) (d * b)
     whole_blocks_full =
-        by-test (eqb (n / b + k) d)
+        by_test (eqb (n / b + k) d)
         (λ t. t
         ∙ sym (eq-eqb (n + b * k) (d * b) (as_blocks ∙ ap (λ (m : ℕ). m * b) (eqb-true (n / b + k) d t))))
         (λ t. t
@@ -77,10 +77,10 @@ module _ (x : State) (q : ℕ) where
   tests = is_full x q ∷ not (is_owed x q) ∷ ltb 0 (tail_bytes x q) ∷ []
 
   pub no_byte_swaps_not : tail_bytes x q ≡ 0 → false ≡ swaps_at x q
-  no_byte_swaps_not e = sym (all-true-not tests 2 (ap (ltb 0) e))
+  no_byte_swaps_not e = sym (all_true_not tests 2 (ap (ltb 0) e))
 
   pub room_swaps_not : is_full x q ≡ false → false ≡ swaps_at x q
-  room_swaps_not t = sym (all-true-not tests 0 t)
+  room_swaps_not t = sym (all_true_not tests 0 t)
 
   pub full-swaps : 1 ≤ tail_bytes x q → is_full x q ≡ true → {owing : Bool} → owing ≡ is_owed x q
       → not owing ≡ swaps_at x q
@@ -99,7 +99,7 @@ module _ (x : State) where
 
   pub elsewhere_swaps_not : (q v p : ℕ) → (q ≡ p → ⊥) → false ≡ swaps x (some (byte q v)) (some p)
   elsewhere_swaps_not q v p h =
-      sym (all-true-not (swap_tests x (byte q v) p) 1 (ne_eqb p q (λ e. h (sym e))))
+      sym (all_true_not (swap_tests x (byte q v) p) 1 (ne_eqb p q (λ e. h (sym e))))
 
   pub swaps-there : (q v p : ℕ) → q ≡ p → swaps_at x q ≡ swaps x (some (byte q v)) (some p)
   swaps-there q v p e = rw (← e, eqb_same q)

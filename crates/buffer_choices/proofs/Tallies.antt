@@ -5,8 +5,8 @@ use Prim.Native.Nat.{ℕ, ◌+◌, ◌/◌, ◌≤◌, ◌<◌}
 use native.Mathlib.Omega.{arith}
 use lib.ListN.{length, set, get_or, replicate, length-set}
 use Rattle.model.specs.State.{Byte, count_of}
-use Rattle.model.proofs.basics.Tests.{at-queue, update_same, update_other}
-use Rattle.model.proofs.basics.Bytes.{count-append, count-one-same, count-one-other}
+use Rattle.model.proofs.basics.Tests.{at_queue_lem, update_same, update_other}
+use Rattle.model.proofs.basics.Bytes.{count_append, count_one_same, count_one_other}
 use Rattle.layout.specs.Entries.{byte_of, bytes_in, counts_in}
 use Rattle.layout.proofs.Entries.{bytes-none, bytes-more, bytes-length}
 use Rattle.layout.proofs.Counts.{counts_zero, counts_stored}
@@ -31,14 +31,14 @@ tally_more counts xs y l w =
     record {
       long = length-set counts q n ∙ w.long;
       count_is =
-          at-queue (λ p. counts_in (set counts q n) p ≡ count_of p (xs ++ y ∷ [])) q
+          at_queue_lem (λ p. counts_in (set counts q n) p ≡ count_of p (xs ++ y ∷ [])) q
           (ap (λ (f : ℕ → ℕ). f q) storedNow
           ∙ update_same (counts_in counts) q n
-          ∙ omega (arith, w.count_is q, count-append q xs (y ∷ []), count-one-same y))
+          ∙ omega (arith, w.count_is q, count_append q xs (y ∷ []), count_one_same y))
           (λ p t.
           ap (λ (f : ℕ → ℕ). f p) storedNow
           ∙ update_other (counts_in counts) q n p t
-          ∙ omega (arith, w.count_is p, count-append p xs (y ∷ []), count-one-other y p t));
+          ∙ omega (arith, w.count_is p, count_append p xs (y ∷ []), count_one_other y p t));
     }
 
 pub tally_one : (counts xs : List ℕ) (i : ℕ) → i < length xs → get_or xs i 0 / 256 < 256

@@ -10,8 +10,8 @@ use lib.ListN.{length, take, get_or}
 use lib.Seq.{take-length}
 use borrow.Author.Tests.{eq-eqb, ne_eqb, leb-true, leb-false}
 use Rattle.model.specs.State.{count_of, owes, owed_of}
-use Rattle.model.proofs.basics.Tests.{by-test}
-use Rattle.model.proofs.basics.Bytes.{count-append}
+use Rattle.model.proofs.basics.Tests.{by_test}
+use Rattle.model.proofs.basics.Bytes.{count_append}
 use Rattle.layout.specs.Lengths.{cell_places}
 use Rattle.layout.specs.Entries.{byte_of, bytes_in, cell_of, cells_in}
 use Rattle.layout.proofs.Entries.{bytes-none, bytes-more, bytes-length}
@@ -44,7 +44,7 @@ none_owed q xs = rw (no_cells xs)
 
 module _ (q i : ℕ) (xs : List ℕ) (h : i < length xs) where
   pub count_more : count_of q (bytes_in (i + 1) xs) ≡ count_of q (bytes_in i xs) + count_of q (byte_of (get_or xs i 0) ∷ [])
-  count_more = ap (count_of q) (bytes-more i xs h) ∙ count-append q (bytes_in i xs) (byte_of (get_or xs i 0) ∷ [])
+  count_more = ap (count_of q) (bytes-more i xs h) ∙ count_append q (bytes_in i xs) (byte_of (get_or xs i 0) ∷ [])
 
   pub count_small : count_of q (bytes_in (i + 1) xs) ≤ i + 1
   count_small = omega (arith, count_le q (bytes_in (i + 1) xs), bytes-length (i + 1) xs (omega arith))
@@ -61,7 +61,7 @@ take_past (suc n) (x ∷ xs) h = ap (λ (l : List ℕ). x ∷ l) (take_past n xs
 
 take_within : (n : ℕ) (xs : List ℕ) → take (min n (length xs)) xs ≡ take n xs
 take_within n xs =
-    by-test (leb n (length xs))
+    by_test (leb n (length xs))
     (λ t. ap (λ (k : ℕ). take k xs) (min-eq_left (leb-true n (length xs) t)))
     (λ t. let past : length xs ≤ n = omega (arith, leb-false n (length xs) t) in
     ap (λ (k : ℕ). take k xs) (min-eq_right past) ∙ take-length xs ∙ sym (take_past n xs past))
@@ -70,9 +70,9 @@ pub bytes-within : (n m : ℕ) (xs : List ℕ) → length xs ≡ m → bytes_in 
 unfolding bytes_in
 bytes-within n m xs e = rw (← e, take_within n xs)
 
-pub cells_within_lem : (n m : ℕ) (xs : List ℕ) → length xs ≡ m → cells_in (min n m) xs ≡ cells_in n xs
+pub cells_within : (n m : ℕ) (xs : List ℕ) → length xs ≡ m → cells_in (min n m) xs ≡ cells_in n xs
 unfolding cells_in
-cells_within_lem n m xs e = rw (← e, take_within n xs)
+cells_within n m xs e = rw (← e, take_within n xs)
 
 -- The lookahead's length, where the product is nothing, too much for the array, or small.
 pub no_product : (a b : ℕ) → a * b ≡ 0 → 1 ≡ min (a * b + 1) cell_places

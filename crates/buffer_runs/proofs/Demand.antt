@@ -12,7 +12,7 @@ use Rattle.model.specs.Calls.{idles}
 use Rattle.model.specs.Lists.{Step, run, last_state, last_store, accepted}
 use Rattle.model.specs.Chains.{Chain, no_slot, own_slot, arbiter_slot_lem}
 use Rattle.model.specs.Demand.{ListMeets}
-use Rattle.model.proofs.one_slot.Rules.{made-accepted}
+use Rattle.model.proofs.one_slot.Rules.{made_accepted}
 use Rattle.model.proofs.one_slot.Chains.{run-then}
 use Rattle.model.proofs.delay.Sentences.{sentences}
 use Rattle.model.proofs.Demand.{every_chain}
@@ -51,7 +51,7 @@ mixed_calls_meet q b k made store steps last m zero c = (
 )
   where
     ok : accepts paper_limits (sizes q b k) ≡ true
-    ok = made-accepted paper (sizes q b k) (sym m.number_is ∙ zero)
+    ok = made_accepted paper (sizes q b k) (sym m.number_is ∙ zero)
 
     chain : Chain paper (fresh paper (sizes q b k)) store steps (state_of last)
     chain = subst (λ (x : State). Chain paper x store steps (state_of last)) (m.fresh-is ok) (is_chain c)

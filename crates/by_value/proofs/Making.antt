@@ -10,8 +10,8 @@ use Rattle.model.specs.Sizes.{sizes, paper_limits, accepts, paper}
 use Rattle.model.specs.State.{State, fresh}
 use Rattle.model.specs.Slot.{Call, Answer}
 use Rattle.model.specs.Lists.{run, last_state, last_store}
-use Rattle.model.proofs.basics.Tests.{true-not-false}
-use Rattle.model.proofs.one_slot.Rules.{made-accepted}
+use Rattle.model.proofs.basics.Tests.{true_not_false}
+use Rattle.model.proofs.one_slot.Rules.{made_accepted}
 use Rattle.run_words.specs.Words.{answer_slots, call_of}
 use Rattle.run_words.proofs.SlotsLeft.{slots_left_fit}
 use Rattle.run_in_place.specs.Says.{word_of}
@@ -50,7 +50,7 @@ pub drove : {q b k : ℕ} {m : Made} {calls answers answers' store store' : List
     → DrivenIs 0 x.tail_mark x.head_mark r
     → DroveSays q b k calls answers answers' store store' r
 drove {q} {b} {k} {m} {calls} {answers} {store = store} {first} {x} {n = n} says made is_made all ran left = record {
-  refused = λ f. absurd (true-not-false (accepts paper_limits (sizes q b k)) ok f);
+  refused = λ f. absurd (true_not_false (accepts paper_limits (sizes q b k)) ok f);
   ran = λ e. (
     record {
       number_is = left.number_is;
@@ -69,7 +69,7 @@ drove {q} {b} {k} {m} {calls} {answers} {store = store} {first} {x} {n = n} says
 }
   where
     ok : accepts paper_limits (sizes q b k) ≡ true
-    ok = made-accepted paper (sizes q b k) (sym says.number_is ∙ made)
+    ok = made_accepted paper (sizes q b k) (sym says.number_is ∙ made)
 
     fresh-is : state_of first ≡ fresh paper (sizes q b k)
     fresh-is = ap state_of is_made ∙ says.fresh-is ok

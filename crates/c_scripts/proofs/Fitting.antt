@@ -11,7 +11,7 @@ use native.Mathlib.Omega.{arith}
 use lib.Dec.{eqb, ltb}
 use lib.ListN.{length, take, get_or}
 use borrow.Author.Tests.{eqb-true, eqb-false, eq-eqb, ne_eqb, ltb-true, ltb-false}
-use Rattle.model.proofs.basics.Tests.{by-test, by-option, and_left, and_right, true-not-false}
+use Rattle.model.proofs.basics.Tests.{by_test, by_option, and_left, and_right, true_not_false}
 use Rattle.script_commands.specs.Commands.{Operand, size, queue, value, count, width, bound}
 use Rattle.script_commands.specs.Commands.{Kind, sizes, idle, arrive, ask, both, idles, end, row, kind_of}
 use Rattle.script_commands.specs.Commands.{Command, command, Fitting}
@@ -25,7 +25,7 @@ pub known_named : (j : Kind) (n : Numbers) → n.code ≡ (row j).code
 known_named j n e = rw (e, kind_of_code j)
 
 pub none_named : (n : Numbers) → ((k : Kind) → n.code ≡ (row k).code → ⊥) → none ≡ cut_command (kind_of n.code) n
-none_named n other = by-option (kind_of n.code)
+none_named n other = by_option (kind_of n.code)
     (λ e. ap (λ (found : Option Kind). cut_command found n) (sym e))
     (λ k e. absurd (other k (sym (code_of_kind n.code k e))))
 
@@ -37,13 +37,13 @@ bound-above value = omega arith
 bound-above count = omega arith
 
 within_by_cutting : (o : Operand) (v : ℕ) → ltb v (bound (width o)) ≡ eqb (v % bound (width o)) v
-within_by_cutting o v = by-test (ltb v (bound (width o)))
+within_by_cutting o v = by_test (ltb v (bound (width o)))
     (λ t. t ∙ sym (eq-eqb (v % bound (width o)) v (mod-eq_of_lt (ltb-true v (bound (width o)) t))))
     (λ t. t ∙ sym (ne_eqb (v % bound (width o)) v (λ e.
     absurd (omega (arith, e, ltb-false v (bound (width o)) t, mod-lt v (bound-above o))))))
 
 zero_told : (v : ℕ) → eqb v 0 ≡ eqb 0 v
-zero_told v = by-test (eqb v 0)
+zero_told v = by_test (eqb v 0)
     (λ t. t ∙ sym (eq-eqb 0 v (sym (eqb-true v 0 t))))
     (λ t. t ∙ sym (ne_eqb 0 v (λ e. eqb-false v 0 t (sym e))))
 
@@ -101,7 +101,7 @@ fits_by_cutting k n = sym (by_cutting n.one n.two n.three (row k).operands (at_m
 -- Numbers that fit are the operands, and each is within its width.
 cut-nothing : (os : List Operand) (vs : List ℕ) → fitting os vs ≡ true → cut os vs ≡ take (length os) vs
 cut-nothing [] vs fit = refl
-cut-nothing (o ∷ os) [] fit = absurd (true-not-false false fit refl)
+cut-nothing (o ∷ os) [] fit = absurd (true_not_false false fit refl)
 cut-nothing (o ∷ os) (v ∷ vs) fit =
     rw (
       mod-eq_of_lt (ltb-true v (bound (width o)) (and_left _ _ fit)),
@@ -110,7 +110,7 @@ cut-nothing (o ∷ os) (v ∷ vs) fit =
 
 pub operands_fit : (os : List Operand) (vs : List ℕ) → fitting os vs ≡ true → Fitting os (take (length os) vs)
 operands_fit [] vs fit = tt
-operands_fit (o ∷ os) [] fit = absurd (true-not-false false fit refl)
+operands_fit (o ∷ os) [] fit = absurd (true_not_false false fit refl)
 operands_fit (o ∷ os) (v ∷ vs) fit = (
   ltb-true v (bound (width o)) (and_left (ltb v (bound (width o))) (fitting os vs) fit),
   operands_fit os vs (and_right (ltb v (bound (width o))) (fitting os vs) fit),

@@ -8,8 +8,8 @@ use Prim.Native.Nat.{ℕ}
 use lib.Dec.{ltb}
 use lib.ListN.{length}
 use borrow.Author.Tests.{not-false}
-use Rattle.model.proofs.basics.FirstRefusal.{no-refusal-at, when-zero}
-use Rattle.model.proofs.basics.Tests.{by-test, by-option, none-not-some, some_inj}
+use Rattle.model.proofs.basics.FirstRefusal.{no_refusal_at, when-zero}
+use Rattle.model.proofs.basics.Tests.{by_test, by_option, none_not_some, some_inj}
 use Rattle.script_commands.specs.declared.Command as code
 use Rattle.script_commands.specs.Commands.{Kind, row, kind_of, Command, command}
 use Rattle.script_commands.specs.Scripts.{read_command, command_bytes}
@@ -33,9 +33,9 @@ module _ (n : Numbers) (output : List ℕ) where
   -- A code of no row.
   pub unknown_refused : {r : Named} → named_in r ≡ cut_command (kind_of n.code) n → r ≡ Unknown
       → NumbersWritten n output (record { length = 0; number = 12 }) output
-  unknown_refused says is = by-option (kind_of n.code)
+  unknown_refused says is = by_option (kind_of n.code)
       (λ e. record { number_is = rw e; length-is = refl; output_is = refl })
-      (λ k e. absurd (none-not-some _ (ap named_in (sym is) ∙ says ∙ named_at e)))
+      (λ k e. absurd (none_not_some _ (ap named_in (sym is) ∙ says ∙ named_at e)))
 
   -- A code of a row, with the command that its numbers name.
   module _ (c : code.Command) where
@@ -44,8 +44,8 @@ module _ (n : Numbers) (output : List ℕ) where
 
     by_kind : {A : Type 0} {r : Named} → named_in r ≡ cut_command (kind_of n.code) n → r ≡ Known c
         → ((k : Kind) → Named-by k → A) → A
-    by_kind says is go = by-option (kind_of n.code)
-        (λ e. absurd (none-not-some _ (sym (ap named_in (sym is) ∙ says ∙ named_at e))))
+    by_kind says is go = by_option (kind_of n.code)
+        (λ e. absurd (none_not_some _ (sym (ap named_in (sym is) ∙ says ∙ named_at e))))
         (λ k e. go k (e, some_inj _ _ (ap named_in (sym is) ∙ says ∙ named_at e)))
 
     fits_told : (k : Kind) → Named-by k
@@ -72,7 +72,7 @@ module _ (n : Numbers) (output : List ℕ) where
         sym (fits_told k named)
         ∙ ap (λ (x : Numbers). same_operands x n) (sym told) ∙ sym tested ∙ alike in
         let same-command : command_in c ≡ command_for k n = named.1 ∙ cut-is k n fit in
-        by-test (ltb (length output) (length (bytes_for (some k) n)))
+        by_test (ltb (length output) (length (bytes_for (some k) n)))
         (λ t.
         let short : too_short c output ≡ true = rw (same-command) t in
         let number : w.number ≡ 16 = written.number_is ∙ rw short in
@@ -106,7 +106,7 @@ numbers-back n output output' w first r k says accepted known in_place reads =
 
     fit : fitting (row k).operands (given n) ≡ true
     fit = not-false (fitting (row k).operands (given n))
-        (when-zero (not (fitting (row k).operands (given n))) 15 (no-refusal-at (write_refusals k n output) 0 refusals))
+        (when-zero (not (fitting (row k).operands (given n))) 15 (no_refusal_at (write_refusals k n output) 0 refusals))
 
     left : output' ≡ put_over (bytes_for (some k) n) output
     left = says.output_is ∙ rw (accepted, known)

@@ -10,14 +10,14 @@ use lib.ListN.{length, take, drop, get_or}
 use borrow.Author.Tests.{eq-eqb, ne_eqb, ltb-true, ltb-false}
 use Rattle.model.specs.State.{Byte, count_of}
 use Rattle.model.specs.Slot.{oldest_of, without}
-use Rattle.model.proofs.basics.Tests.{by-test}
+use Rattle.model.proofs.basics.Tests.{by_test}
 use Rattle.layout.specs.Entries.{byte_of, bytes_in}
 use Rattle.caches.specs.Says.{NoneOf, place_of}
 
 -- None in one part and none in the next.
 pub none_in_both : (q : ℕ) (xs : List ℕ) (n m : ℕ) → NoneOf q xs 0 n → NoneOf q xs n m → NoneOf q xs 0 (n + m)
 none_in_both q xs n m first next k l e =
-    by-test (ltb k n)
+    by_test (ltb k n)
     (λ t. first k (ltb-true k n t) e)
     (λ t. let f : n + (k - n) ≡ 0 + k = omega (arith, ltb-false k n t) in
     next (k - n) (omega (arith, l, ltb-false k n t)) (ap (λ (i : ℕ). get_or xs i 0 / 256) f ∙ e))
@@ -41,7 +41,7 @@ pub without-oldest : (q : ℕ) (xs : List Byte)
 unfolding place_of
 without-oldest q [] = refl
 without-oldest q (x ∷ xs) =
-    by-test (eqb x.queue q)
+    by_test (eqb x.queue q)
     (λ t. rw t)
     (λ t. rw t (ap (λ (ys : List Byte). x ∷ ys) (without-oldest q xs)))
 
@@ -50,7 +50,7 @@ pub oldest_within : (q : ℕ) (xs : List Byte) → 1 ≤ count_of q xs → place
 unfolding place_of
 oldest_within q [] h = absurd (omega arith)
 oldest_within q (x ∷ xs) h =
-    by-test (eqb x.queue q)
+    by_test (eqb x.queue q)
     (λ t. rw t (omega arith))
     (λ t. rw t (omega (arith, oldest_within q xs (rw t at h))))
 
@@ -59,6 +59,6 @@ pub oldest_is : (q : ℕ) (xs : List Byte) (d : Byte) → 1 ≤ count_of q xs
 unfolding place_of
 oldest_is q [] d h = absurd (omega arith)
 oldest_is q (x ∷ xs) d h =
-    by-test (eqb x.queue q)
+    by_test (eqb x.queue q)
     (λ t. rw t)
     (λ t. rw t (oldest_is q xs d (rw t at h)))

@@ -12,7 +12,7 @@ use mir.Val.{bool_byte}
 use borrow.Author.Tests.{eq-eqb, eqb-true, eqb-false, ltb-true, ltb-false}
 use Rattle.model.specs.State.{Byte, values_of, count_of}
 use Rattle.model.specs.Slot.{without, placed}
-use Rattle.model.proofs.basics.Tests.{by-test}
+use Rattle.model.proofs.basics.Tests.{by_test}
 use Rattle.model.proofs.basics.Bytes.{values-append}
 use Rattle.layout.specs.Entries.{byte_of, bytes_in}
 use Rattle.caches.specs.Says.{WroteOut}
@@ -28,7 +28,7 @@ without-sent : (n q : ℕ) (xs : List Byte) (y : Byte) → eqb y.queue q ≡ tru
 without-sent zero q xs y t h = absurd (omega arith)
 without-sent (suc n) q [] y t h = rw t (without-nil n q)
 without-sent (suc n) q (x ∷ xs) y t h =
-    by-test (eqb x.queue q)
+    by_test (eqb x.queue q)
     (λ u. rw u (without-sent n q xs y t (omega (arith, rw u at h))))
     (λ u. rw u (ap (λ (zs : List Byte). x ∷ zs) (without-sent (suc n) q xs y t (rw u at h))))
 
@@ -36,11 +36,11 @@ without-kept : (n q : ℕ) (xs : List Byte) (y : Byte) → (eqb y.queue q ≡ tr
     → without n q (xs ++ y ∷ []) ≡ without n q xs ++ y ∷ []
 without-kept zero q xs y h = refl
 without-kept (suc n) q [] y h =
-    by-test (eqb y.queue q)
+    by_test (eqb y.queue q)
     (λ t. absurd (omega (arith, h t)))
     (λ t. rw t)
 without-kept (suc n) q (x ∷ xs) y h =
-    by-test (eqb x.queue q)
+    by_test (eqb x.queue q)
     (λ u. rw u (without-kept n q xs y (λ t. omega (arith, rw u at (h t)))))
     (λ u. rw u (ap (λ (zs : List Byte). x ∷ zs) (without-kept (suc n) q xs y (λ t. rw u at (h t)))))
 
@@ -55,7 +55,7 @@ values-kept : (n q : ℕ) (xs : List Byte) (y : Byte) → (eqb y.queue q ≡ tru
     → take n (values_of q (xs ++ y ∷ [])) ≡ take n (values_of q xs)
 values-kept n q xs y h =
     ap (take n) (values-append q xs (y ∷ []))
-    ∙ by-test (eqb y.queue q)
+    ∙ by_test (eqb y.queue q)
     (λ t. rw t (take-append-le n (values_of q xs) (y.value ∷ []) (h t)))
     (λ t. rw t (ap (take n) (append-nil (values_of q xs))))
 
@@ -205,7 +205,7 @@ module _ (n q b place : ℕ) (before store₀ : List ℕ) where
     -- While the block is not whole there is an entry more.
     pub more_to_see : b ≤ count_of q (bytes_in n before) → gone < b → i < n
     more_to_see enough l =
-        by-test (ltb i n)
+        by_test (ltb i n)
         (λ t. ltb-true i n t)
         (λ t.
         let last : i ≡ n = omega (arith, ltb-false i n t, w.passed.within) in
@@ -229,7 +229,7 @@ module _ (n q b place : ℕ) (before store₀ : List ℕ) where
         let after₁ = set after (i - gone) e in
         let store₁ = set store (place + gone) (e % 256) in
         let long = length-set store (place + gone) (e % 256) ∙ w.same_store in
-        by-test (eqb (e / 256) q)
+        by_test (eqb (e / 256) q)
         (λ t.
         let sent = pass_sends h room after (sent_by i) gone i w.passed more (eqb-true (e / 256) q t) l in
         let is_sent : store₁ ≡ sent_by (i + 1) = w.but_next (e % 256) l ∙ sent.stored_is in

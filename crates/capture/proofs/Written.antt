@@ -6,7 +6,7 @@ use native.Mathlib.Omega.{arith}
 use lib.ListN.{length, take, drop, length-append}
 use lib.Seq.{take-append_seam}
 use Rattle.model.specs.Sizes.{sizes}
-use Rattle.model.proofs.basics.FirstRefusal.{no-refusal-at}
+use Rattle.model.proofs.basics.FirstRefusal.{no_refusal_at}
 use Rattle.capture_frames.specs.Script.{capture_script, capture_refusals, capture_number, output_after}
 use Rattle.captures.specs.declared.Conversion.{Conversion}
 use Rattle.captures.specs.declared.Conversion.TheVariants.{Written}
@@ -45,7 +45,7 @@ module _ {q b k : ℕ} {capture output : List ℕ} {r : Conversion} {output' : L
   is_script = record {
     sizes = sizes q b k;
     capture = capture;
-    good = no-refusal-at (capture_refusals (sizes q b k) capture (length output)) 0 none_refused;
+    good = no_refusal_at (capture_refusals (sizes q b k) capture (length output)) 0 none_refused;
     bytes_are =
         ap (λ (m : ℕ). take m output') length-is
         ∙ ap (take (length script)) output_is

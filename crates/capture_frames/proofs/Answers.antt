@@ -19,7 +19,7 @@ use Rattle.model.specs.Calls.{arrival}
 use Rattle.model.specs.Lists.{Step, run}
 use Rattle.model.specs.Demand.{NoMiss}
 use Rattle.model.proofs.basics.AllOf.{◌also◌}
-use Rattle.model.proofs.basics.FirstRefusal.{first-has, when-has}
+use Rattle.model.proofs.basics.FirstRefusal.{first_has, when-has}
 use Rattle.capture_frames.specs.Sentences.{DropsOnly5}
 use Rattle.capture_frames.proofs.Slots.{ArrivesBelow, arrives}
 
@@ -50,7 +50,7 @@ module _ (design : Design) (x : State) (store : List ℕ) where
 
   refusal-of_arrival : (q v : ℕ) → q < x.sizes.Q → StopsArrival (refusal design x store (arrival q v))
   refusal-of_arrival q v l =
-      first-has StopsArrival (refusals design x store (arrival q v)) is_0 (
+      first_has StopsArrival (refusals design x store (arrival q v)) is_0 (
       may (not (keeps design x)) 3 (λ t. is_3)
       also may (ltb (length store) (store_bytes x.sizes)) 2 (λ t. is_2)
       also may (leb x.sizes.Q q) 4 (λ t. absurd (omega (arith, l, leb-true x.sizes.Q q t)))

@@ -10,9 +10,9 @@ use native.Mathlib.Omega.{arith}
 use lib.ListN.{length, get_or, length-append}
 use Rattle.model.specs.Basics.{All}
 use Rattle.model.specs.Sizes.{Sizes, accepts, paper_limits}
-use Rattle.model.proofs.basics.Tests.{by-test}
+use Rattle.model.proofs.basics.Tests.{by_test}
 use Rattle.model.proofs.basics.AllOf.{all_append}
-use Rattle.model.proofs.basics.Limits.{within-limits}
+use Rattle.model.proofs.basics.Limits.{within_limits}
 use Rattle.script_commands.specs.Commands as of
 use Rattle.script_commands.specs.Commands.{Command, command, OperandsFit}
 use Rattle.script_commands.specs.Scripts.{judge, script_bytes, InOrder, ends, goes_on}
@@ -47,7 +47,7 @@ byte_at (v ∷ frame) zero h = h.0
 byte_at (v ∷ frame) (suc i) h = byte_at frame i h.1
 
 pub queue_of_eight : (frame : List ℕ) → Bytes frame → queue_of frame < 8
-queue_of_eight frame h = by-test (is_tagged frame)
+queue_of_eight frame h = by_test (is_tagged frame)
     (λ t. rw t (omega (arith, byte_at frame 14 h)))
     (λ t. rw t (omega arith))
 
@@ -66,8 +66,8 @@ all_fit (frame ∷ frames) h =
 pub commands_fit : (s : Sizes) (frames : List (List ℕ)) → accepts paper_limits s ≡ true → All Bytes frames
     → All OperandsFit (capture_commands s frames)
 commands_fit s frames e h =
-    let w = within-limits paper_limits s e in (
-      (omega (arith, w.q-high), (omega (arith, w.b-high), (omega (arith, w.k-high), tt))),
+    let w = within_limits paper_limits s e in (
+      (omega (arith, w.q_high), (omega (arith, w.b_high), (omega (arith, w.k_high), tt))),
       all_append OperandsFit (all_arrivals frames) (command of.end [] ∷ []) (all_fit frames h) (tt, tt),
     )
 

@@ -8,7 +8,7 @@ use lib.Dec.{eqb}
 use lib.ListN.{length, take, drop}
 use borrow.Author.Tests.{leb-true, le-leb, eqb-true, eq-eqb}
 use Rattle.model.proofs.basics.Tests.{and_left, and_right, and_both}
-use Rattle.model.proofs.basics.AllOf.{all-true-at}
+use Rattle.model.proofs.basics.AllOf.{all_true_at}
 use Rattle.capture_frames.specs.Frames.{starts_with, first_bytes, link_type, header_tests, header_good}
 use Rattle.capture_frames.specs.Sentences.{NamedHeader}
 
@@ -32,9 +32,9 @@ begun (x ∷ expected) (y ∷ bytes) e =
 
 pub good_is_named : (capture : List ℕ) → header_good capture ≡ true → NamedHeader capture
 good_is_named capture t = record {
-  all_there = leb-true 24 (length capture) (all-true-at (header_tests capture) 0 t);
-  first_are = begins first_bytes capture (all-true-at (header_tests capture) 1 t);
-  link_is = begins link_type (drop 20 capture) (all-true-at (header_tests capture) 2 t);
+  all_there = leb-true 24 (length capture) (all_true_at (header_tests capture) 0 t);
+  first_are = begins first_bytes capture (all_true_at (header_tests capture) 1 t);
+  link_is = begins link_type (drop 20 capture) (all_true_at (header_tests capture) 2 t);
 }
 
 pub named_is_good : (capture : List ℕ) → NamedHeader capture → header_good capture ≡ true

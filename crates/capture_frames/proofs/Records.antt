@@ -11,8 +11,8 @@ use lib.Dec.{eqb}
 use lib.ListN.{length, drop, length-drop}
 use lib.Seq.{length-take-le}
 use borrow.Author.Tests.{leb-true, le-leb, eq-eqb, ne_eqb}
-use Rattle.model.proofs.basics.Tests.{by-test}
-use Rattle.model.proofs.basics.AllOf.{all-true-at}
+use Rattle.model.proofs.basics.Tests.{by_test}
+use Rattle.model.proofs.basics.AllOf.{all_true_at}
 use Rattle.capture_frames.specs.Frames.{record_head, captured_in, most_captured, record_tests, record_good, frame_in}
 use Rattle.capture_frames.specs.Frames.{after_record, with_frame, frames_within, frames_from}
 
@@ -24,9 +24,9 @@ pub record GoodRecord (rest : List ℕ) : Type 0 where
 
 pub good_record : (rest : List ℕ) → record_good rest ≡ true → GoodRecord rest
 good_record rest t = record {
-  head_there = leb-true record_head (length rest) (all-true-at (record_tests rest) 0 t);
-  not_too_long = leb-true (captured_in rest) most_captured (all-true-at (record_tests rest) 1 t);
-  all_there = leb-true (record_head + captured_in rest) (length rest) (all-true-at (record_tests rest) 2 t);
+  head_there = leb-true record_head (length rest) (all_true_at (record_tests rest) 0 t);
+  not_too_long = leb-true (captured_in rest) most_captured (all_true_at (record_tests rest) 1 t);
+  all_there = leb-true (record_head + captured_in rest) (length rest) (all_true_at (record_tests rest) 2 t);
 }
 
 pub record-good : (rest : List ℕ) → GoodRecord rest → record_good rest ≡ true
@@ -53,9 +53,9 @@ steps_enough zero zero rest h k = refl
 steps_enough zero (suc more) rest h k = rw (eq-eqb (length rest) 0 (omega arith))
 steps_enough (suc steps) zero rest h k = rw (eq-eqb (length rest) 0 (omega arith))
 steps_enough (suc steps) (suc more) rest h k =
-    by-test (eqb (length rest) 0)
+    by_test (eqb (length rest) 0)
     (λ t. rw t)
-    (λ t. by-test (record_good rest)
+    (λ t. by_test (record_good rest)
     (λ u. rw (t, u) (ap (with_frame (frame_in rest)) (steps_enough steps more (after_record rest)
     (omega (arith, shorter rest u)) (omega (arith, shorter rest u)))))
     (λ u. rw (t, u)))

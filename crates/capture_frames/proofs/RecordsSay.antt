@@ -12,9 +12,9 @@ use lib.ListN.{length, take, drop, length-append, length-drop, take-append-drop}
 use lib.Seq.{length-take-le, take-append_seam, drop-append_seam, drop-append-le, drop-drop, drop_at}
 use borrow.Author.Tests.{eqb-true, eqb-false}
 use Rattle.model.specs.Basics.{All}
-use Rattle.model.proofs.basics.Tests.{by-test, none-not-some, some_inj}
+use Rattle.model.proofs.basics.Tests.{by_test, none_not_some, some_inj}
 use Rattle.script_commands.specs.Commands.{number_in}
-use Rattle.model.proofs.basics.AllOf.{all_first, all-behind}
+use Rattle.model.proofs.basics.AllOf.{all_first, all_behind}
 use Rattle.capture_frames.specs.Frames.{header_bytes, record_head, captured_in, most_captured, record_good}
 use Rattle.capture_frames.specs.Frames.{frame_in, after_record, with_frame, frames_from, frames_in}
 use Rattle.capture_frames.specs.Sentences.{Bytes, captured_bytes, Records, no_record, next_record}
@@ -66,20 +66,20 @@ records_end (x ∷ rest) frames z e = absurd (omega (arith, z))
 
 frames_behind : (frame : List ℕ) (o : Option (List (List ℕ))) (all : List (List ℕ)) → with_frame frame o ≡ some all
     → (frames : List (List ℕ)) × (o ≡ some frames) × (frame ∷ frames ≡ all)
-frames_behind frame none all e = absurd (none-not-some all e)
+frames_behind frame none all e = absurd (none_not_some all e)
 frames_behind frame (some frames) all e = (frames, refl, some_inj (frame ∷ frames) all e)
 
 records_within : (steps : ℕ) (rest : List ℕ) (frames : List (List ℕ)) → length rest ≤ steps
     → frames_from rest ≡ some frames → Records rest frames
 records_within zero rest frames l e = records_end rest frames (omega (arith, l)) e
-records_within (suc steps) rest frames l e = by-test (eqb (length rest) 0)
+records_within (suc steps) rest frames l e = by_test (eqb (length rest) 0)
     (λ t. records_end rest frames (eqb-true (length rest) 0 t) e)
-    (λ t. by-test (record_good rest)
+    (λ t. by_test (record_good rest)
     (λ u. let behind = frames_behind (frame_in rest) (frames_from (after_record rest)) frames
     (sym (frames_next rest (eqb-false (length rest) 0 t) u) ∙ e) in
     subst (Records rest) behind.2 (record_next rest (good_record rest u)
     (records_within steps (after_record rest) behind.0 (omega (arith, l, shorter rest u)) behind.1)))
-    (λ u. absurd (none-not-some frames (sym (frames_fault rest (eqb-false (length rest) 0 t) u) ∙ e))))
+    (λ u. absurd (none_not_some frames (sym (frames_fault rest (eqb-false (length rest) 0 t) u) ∙ e))))
 
 pub records_from : (rest : List ℕ) (frames : List (List ℕ)) → frames_from rest ≡ some frames → Records rest frames
 records_from rest frames e = records_within (length rest) rest frames (omega arith) e
@@ -130,15 +130,15 @@ frames_from_lem (next_record head frame {rest} {frames} sixteen number short r) 
 -- A fact of all elements of a list, of those behind the first n.
 all_dropped : {A : Type 0} (P : A → Type 0) (n : ℕ) (xs : List A) → All P xs → All P (drop n xs)
 all_dropped P n xs h =
-    all-behind P (take n xs) (drop n xs) (subst (All P) (sym (take-append-drop n xs)) h)
+    all_behind P (take n xs) (drop n xs) (subst (All P) (sym (take-append-drop n xs)) h)
 
 -- Captured bytes are bytes of the capture, and there are no more of them.
 records_bytes : {rest : List ℕ} {frames : List (List ℕ)} → Records rest frames → Bytes rest → All Bytes frames
 records_bytes no_record h = tt
 records_bytes (next_record head frame {rest} {frames} sixteen number short r) h =
-    let behind = all-behind (λ (v : ℕ). v < 256) head (frame ++ rest) h in (
+    let behind = all_behind (λ (v : ℕ). v < 256) head (frame ++ rest) h in (
       all_first (λ (v : ℕ). v < 256) frame rest behind,
-      records_bytes r (all-behind (λ (v : ℕ). v < 256) frame rest behind),
+      records_bytes r (all_behind (λ (v : ℕ). v < 256) frame rest behind),
     )
 
 records_long : {rest : List ℕ} {frames : List (List ℕ)} → Records rest frames

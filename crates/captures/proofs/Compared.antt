@@ -10,8 +10,8 @@ use lib.Dec.{eqb}
 use lib.ListN.{length, drop, get_or, length-drop}
 use lib.Seq.{drop-cons}
 use borrow.Author.Tests.{eq-eqb, ne_eqb, lt-leb, le-leb}
-use Rattle.model.proofs.basics.Tests.{by-test}
-use Rattle.model.proofs.basics.AllOf.{all-true-not}
+use Rattle.model.proofs.basics.Tests.{by_test}
+use Rattle.model.proofs.basics.AllOf.{all_true_not}
 use Rattle.capture_frames.specs.Frames.{starts_with, first_bytes, link_type, header_tests, header_good}
 
 -- Bytes that are the same up to a place.
@@ -23,7 +23,7 @@ too_short : (expected bytes : List ℕ) → length bytes < length expected → s
 too_short [] bytes h = absurd (omega arith)
 too_short (x ∷ expected) [] h = refl
 too_short (x ∷ expected) (y ∷ bytes) h =
-    by-test (eqb x y)
+    by_test (eqb x y)
     (λ t. rw t (too_short expected bytes (omega arith)))
     (λ t. rw t)
 
@@ -54,12 +54,12 @@ module _ {i : ℕ} {expected bytes : List ℕ} (w : SameTo i expected bytes) (ro
       none_left (x ∷ left) e = absurd (omega arith)
 
 pub header-short : (capture : List ℕ) → length capture < 24 → false ≡ header_good capture
-header-short capture h = sym (all-true-not (header_tests capture) 0 (lt-leb 24 (length capture) h))
+header-short capture h = sym (all_true_not (header_tests capture) 0 (lt-leb 24 (length capture) h))
 
 pub header-other : (capture : List ℕ) → starts_with first_bytes capture ≡ false → false ≡ header_good capture
-header-other capture t = sym (all-true-not (header_tests capture) 1 t)
+header-other capture t = sym (all_true_not (header_tests capture) 1 t)
 
 pub header_read : (capture : List ℕ) → 24 ≤ length capture → starts_with first_bytes capture ≡ true
     → starts_with link_type (drop 20 capture) ≡ header_good capture
 header_read capture h t =
-    rw (le-leb 24 (length capture) h, t) (by-test (starts_with link_type (drop 20 capture)) (λ u. rw u) (λ u. rw u))
+    rw (le-leb 24 (length capture) h, t) (by_test (starts_with link_type (drop 20 capture)) (λ u. rw u) (λ u. rw u))

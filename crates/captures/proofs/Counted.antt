@@ -10,8 +10,8 @@ use lib.Dec.{leb}
 use lib.ListN.{length, drop, get_or, length-drop, length-append}
 use lib.Seq.{drop-cons, drop-drop}
 use borrow.Author.Tests.{lt-leb, le-leb}
-use Rattle.model.proofs.basics.Tests.{by-test}
-use Rattle.model.proofs.basics.AllOf.{all-true-not}
+use Rattle.model.proofs.basics.Tests.{by_test}
+use Rattle.model.proofs.basics.AllOf.{all_true_not}
 use Rattle.capture_frames.specs.Frames.{captured_in, record_tests, record_good, frame_in}
 use Rattle.capture_frames.specs.Frames.{after_record, with_frame, frames_from}
 use Rattle.capture_frames.specs.Sentences.{captured_bytes}
@@ -31,15 +31,15 @@ captured_at rest long =
 
 -- A record's tests, in the order of the code.
 pub no_head : (rest : List ℕ) → length rest < 16 → false ≡ record_good rest
-no_head rest h = sym (all-true-not (record_tests rest) 0 (lt-leb 16 (length rest) h))
+no_head rest h = sym (all_true_not (record_tests rest) 0 (lt-leb 16 (length rest) h))
 
 pub too_long : (rest : List ℕ) → 9016 < captured_in rest → false ≡ record_good rest
-too_long rest h = sym (all-true-not (record_tests rest) 1 (lt-leb (captured_in rest) 9016 h))
+too_long rest h = sym (all_true_not (record_tests rest) 1 (lt-leb (captured_in rest) 9016 h))
 
 pub all_there : (rest : List ℕ) → 16 ≤ length rest → captured_in rest ≤ 9016
     → leb (16 + captured_in rest) (length rest) ≡ record_good rest
 all_there rest h k =
-    rw (le-leb 16 (length rest) h, le-leb (captured_in rest) 9016 k) (by-test (leb (16 + captured_in rest) (length rest))
+    rw (le-leb 16 (length rest) h, le-leb (captured_in rest) 9016 k) (by_test (leb (16 + captured_in rest) (length rest))
     (λ t. rw t) (λ t. rw t))
 
 -- The bytes of frames counted up to a place.

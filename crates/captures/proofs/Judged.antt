@@ -9,8 +9,8 @@ use native.Mathlib.Omega.{arith}
 use lib.ListN.{length, take, drop}
 use borrow.Author.Tests.{leb-true}
 use Rattle.model.specs.Sizes.{Sizes, sizes, paper_limits, accepts}
-use Rattle.model.proofs.basics.Tests.{none-not-some, some_inj}
-use Rattle.model.proofs.basics.AllOf.{all-true-at}
+use Rattle.model.proofs.basics.Tests.{none_not_some, some_inj}
+use Rattle.model.proofs.basics.AllOf.{all_true_at}
 use Rattle.script_codes.specs.Says.{put_over}
 use Rattle.scripts.proofs.Parts.{rest_from}
 use Rattle.capture_frames.specs.Frames.{header_tests, header_good, frames_from, frames_in}
@@ -27,16 +27,16 @@ use Rattle.captures.specs.Says.{measured_of, measured_in, FramesFit, record_scri
 -- What counting the frames' bytes tells of the frames.
 none_measured : (o : Option (List (List ℕ))) → measured_of o ≡ none → faulty o ≡ true
 none_measured none e = refl
-none_measured (some frames) e = absurd (none-not-some _ (sym e))
+none_measured (some frames) e = absurd (none_not_some _ (sym e))
 
 some_measured : (o : Option (List (List ℕ))) (n : ℕ) → measured_of o ≡ some n
     → (frames : List (List ℕ)) × (o ≡ some frames) × (length (captured_bytes frames) ≡ n)
-some_measured none n e = absurd (none-not-some n e)
+some_measured none n e = absurd (none_not_some n e)
 some_measured (some frames) n e = (frames, refl, some_inj _ n e)
 
 -- A good header is all there.
 pub header-long : (capture : List ℕ) → header_good capture ≡ true → 24 ≤ length capture
-header-long capture t = leb-true 24 (length capture) (all-true-at (header_tests capture) 0 t)
+header-long capture t = leb-true 24 (length capture) (all_true_at (header_tests capture) 0 t)
 
 -- The tests up to the header found nothing, and the records behind it are measured.
 pub record Passed (q b k : ℕ) (capture : List ℕ) (r : Measured) : Type 0 where

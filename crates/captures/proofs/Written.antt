@@ -7,7 +7,7 @@ use Prim.Native.Nat.{ℕ, ◌+◌, ◌-◌, ◌*◌, ◌≤◌, ◌<◌}
 use native.Mathlib.Omega.{arith}
 use lib.ListN.{length, take, drop, length-append, length-drop}
 use lib.Seq.{drop-drop}
-use Rattle.model.proofs.basics.Tests.{by-test, none-not-some, some_inj}
+use Rattle.model.proofs.basics.Tests.{by_test, none_not_some, some_inj}
 use Rattle.script_commands.specs.Scripts.{script_bytes}
 use Rattle.script_commands.proofs.ReadBack.{script-append}
 use Rattle.script_codes.specs.Says.{put_over}
@@ -83,9 +83,9 @@ frames_start {records} {output} room = record {
 pub next_good : (rest : List ℕ) (frames : List (List ℕ)) → frames_from rest ≡ some frames → (length rest ≡ 0 → ⊥)
     → record_good rest ≡ true
 next_good rest frames are some_left =
-    by-test (record_good rest)
+    by_test (record_good rest)
     (λ t. t)
-    (λ t. absurd (none-not-some frames (sym (frames_fault rest some_left t) ∙ are)))
+    (λ t. absurd (none_not_some frames (sym (frames_fault rest some_left t) ∙ are)))
 
 -- .. and its frame is the next one.
 pub record NextFrame (rest : List ℕ) (frames : List (List ℕ)) : Type 0 where
@@ -101,7 +101,7 @@ next_frame rest frames are some_left =
   where
     go : (o : Option (List (List ℕ))) → frames_from (after_record rest) ≡ o → with_frame (frame_in rest) o ≡ some frames
         → NextFrame rest frames
-    go none e f = absurd (none-not-some frames f)
+    go none e f = absurd (none_not_some frames f)
     go (some others) e f = record {
       others = others;
       frames_are = sym (some_inj (frame_in rest ∷ others) frames f);

@@ -6,7 +6,7 @@ use lib.ListN.{length}
 use Rattle.model.specs.Sizes.{paper}
 use Rattle.model.specs.Slot as model
 use Rattle.model.specs.Slot.{Call, number_alone, refuse, slot}
-use Rattle.model.proofs.one_slot.Accepted.{RefusedOrAccepted, was-refused, was_accepted, outcome}
+use Rattle.model.proofs.one_slot.Accepted.{RefusedOrAccepted, was_refused, was_accepted, outcome}
 use Rattle.layout.specs.Counts.{ByQueue}
 use Rattle.layout.specs.Calls.{arrival_in, request_in, call_in, reply_in}
 use Rattle.layout.specs.declared.Arrival.{Arrival}
@@ -160,7 +160,7 @@ module _ {regs : Regs} (m : Arrays) {bytes : ℕ} {before : Regs} (read-in : bef
     where
       stops : {store : List ℕ} (a : model.Answer) → RefusedOrAccepted paper (state_in regs m) store call a
           → (a.reply.number ≡ 0 → ⊥) → 0 ≡ dropped_told a.reply.arrival_number a.reply.request_number
-      stops a (was-refused k e) f = refl
+      stops a (was_refused k e) f = refl
       stops a (was_accepted e) f = absurd (f refl)
 
   pub judged_going_on : p.number ≡ 0 → {dropped : ℕ}

@@ -7,7 +7,7 @@ use lib.ListN.{length}
 use Rattle.model.specs.Basics.{when}
 use Rattle.model.specs.Sizes.{sizes, paper_limits, accepts, paper, store_bytes}
 use Rattle.model.specs.State.{State, fresh, keeps}
-use Rattle.model.proofs.basics.Tests.{true-not-false}
+use Rattle.model.proofs.basics.Tests.{true_not_false}
 use Rattle.model.proofs.one_slot.Rules.{keeps-holds, keeps-fresh}
 use Rattle.layout.specs.Counts.{ByQueue, Tallies}
 use Rattle.layout.specs.declared.Regs.{Regs}
@@ -43,15 +43,15 @@ opened q b k ok e put = record {
   places_are = λ _. (put, refl, refl);
   ready = λ _ store long.
       subst (λ (n : Regs). Ready n fresh_arrays fresh_counts store) (sym put) (fresh-ready q b k ok store long);
-  as_given = λ f. absurd (true-not-false (accepts paper_limits (sizes q b k)) ok f);
+  as_given = λ f. absurd (true_not_false (accepts paper_limits (sizes q b k)) ok f);
 }
 
 pub not_opened : (q b k : ℕ) {r : ℕ} {regs : List ℕ} {m : Arrays} {counts : ByQueue}
     → accepts paper_limits (sizes q b k) ≡ false → r ≡ 1 → OpenSays q b k r regs m counts regs m counts
 not_opened q b k none e = record {
   number_is = e ∙ sym (ap (λ (t : Bool). when (not t) 1) none);
-  fresh-is = λ ok. absurd (true-not-false (accepts paper_limits (sizes q b k)) ok none);
-  places_are = λ ok. absurd (true-not-false (accepts paper_limits (sizes q b k)) ok none);
-  ready = λ ok. absurd (true-not-false (accepts paper_limits (sizes q b k)) ok none);
+  fresh-is = λ ok. absurd (true_not_false (accepts paper_limits (sizes q b k)) ok none);
+  places_are = λ ok. absurd (true_not_false (accepts paper_limits (sizes q b k)) ok none);
+  ready = λ ok. absurd (true_not_false (accepts paper_limits (sizes q b k)) ok none);
   as_given = λ _. (refl, refl, refl);
 }

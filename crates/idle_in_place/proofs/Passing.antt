@@ -10,11 +10,11 @@ use lib.ListN.{length}
 use borrow.Author.Tests.{eqb-true, eqb-false}
 use Rattle.model.specs.Sizes.{paper, lookahead}
 use Rattle.model.specs.Idle.{leading_empties, move_due, quiet_first}
-use Rattle.model.proofs.basics.Tests.{by-test}
+use Rattle.model.proofs.basics.Tests.{by_test}
 use Rattle.model.proofs.one_slot.Rules.{Keeps, keeps-facts, keeps-holds}
 use Rattle.model.proofs.idle.QuietSlots.{PassedQuietly}
-use Rattle.model.proofs.idle.QuietCount.{counted-within}
-use Rattle.model.proofs.idle.Stretch.{quiet-first-is}
+use Rattle.model.proofs.idle.QuietCount.{counted_within}
+use Rattle.model.proofs.idle.Stretch.{quiet_first_is}
 use Rattle.layout.specs.Entries.{counts_in}
 use Rattle.layout.specs.declared.Regs.{Regs}
 use Rattle.layout.specs.Views.{Arrays, sizes_in, state_in}
@@ -52,7 +52,7 @@ module _ {regs : Regs} {m : Arrays} {counts : ByQueue} {store : List ℕ} (r : R
   kept = keeps-facts paper (state_in regs m) r.kept
 
   fits : l ≤ length m.cells
-  fits = omega (arith, (in_limits regs kept.sizes-ok).span-high, r.long.cells_long)
+  fits = omega (arith, (in_limits regs kept.sizes-ok).span_high, r.long.cells_long)
 
   by_turn : empties ≡ l → cells' ≡ m.cells → QuietlyPassed regs m counts store s cells'
   by_turn all stay = record {
@@ -89,7 +89,7 @@ module _ {regs : Regs} {m : Arrays} {counts : ByQueue} {store : List ℕ} (r : R
 
   pub quiet_passed : QuietlyPassed regs m counts store s cells'
   quiet_passed =
-      by-test (eqb empties l)
+      by_test (eqb empties l)
       (λ t. by_turn (eqb-true empties l t) (says.all_stay (eqb-true empties l t)))
       (λ t. by_shift (omega (arith, eqb-false empties l t, leading_fits l m.cells fits)))
 
@@ -112,10 +112,10 @@ module _ {regs : Regs} {m : Arrays} {counts : ByQueue} {store : List ℕ} (r : R
   -- They are those that the model counts.
   pub quiet_counted : s.count ≡ quiet_first paper (state_in regs m) store n
   quiet_counted =
-      quiet-first-is paper (state_in regs m) store n s.count
+      quiet_first_is paper (state_in regs m) store n s.count
       (counted_by_state regs m store counts kept r.store_long r.tallies n empties s.count s.phase due refl
       refl says.count_is says.phase_is)
-      quiet_passed.slots_pass.steps-quiet
+      quiet_passed.slots_pass.steps_quiet
 
   -- They are no more than there are.
   pub quiet_most : s.count ≤ n
@@ -123,5 +123,5 @@ module _ {regs : Regs} {m : Arrays} {counts : ByQueue} {store : List ℕ} (r : R
       omega (
         arith,
         says.count_is,
-        counted-within (sizes_in regs) regs.phase empties due n,
+        counted_within (sizes_in regs) regs.phase empties due n,
       )

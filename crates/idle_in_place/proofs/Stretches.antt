@@ -11,11 +11,11 @@ use Rattle.model.specs.Slot.{number_alone, Answer, slot}
 use Rattle.model.specs.Calls.{idle, idles}
 use Rattle.model.specs.Lists.{Step, step_of, run, last_state, last_store}
 use Rattle.model.specs.Idle.{QuietStep, quiet_first, last_answer}
-use Rattle.model.proofs.basics.AllOf.{all_first, all-behind}
+use Rattle.model.proofs.basics.AllOf.{all_first, all_behind}
 use Rattle.model.proofs.basics.Tests.{by_zero}
 use Rattle.model.proofs.one_slot.Lists.{run-append}
 use Rattle.model.proofs.idle.QuietSlots.{PassedQuietly, idles-parts}
-use Rattle.model.proofs.idle.Stretch.{last-is-slot, last-leaves}
+use Rattle.model.proofs.idle.Stretch.{last_is_slot, last_leaves}
 use Rattle.layout.specs.Counts.{ByQueue}
 use Rattle.layout.specs.Calls.{reply_in}
 use Rattle.layout.specs.Views.{Arrays, state_in}
@@ -56,8 +56,8 @@ module _ (x : State) (store : List ℕ) (n : ℕ) (quiet : All QuietStep (run pa
   last_quiet =
       by_zero n
       (λ e. ap (λ (k : ℕ). (last_answer paper x store k).reply) e)
-      (λ h. ap (λ (a : Answer). a.reply) (last-is-slot paper x store n h)
-      ∙ (all-behind QuietStep first_steps (last_step ∷ []) (in_parts h)).0)
+      (λ h. ap (λ (a : Answer). a.reply) (last_is_slot paper x store n h)
+      ∙ (all_behind QuietStep first_steps (last_step ∷ []) (in_parts h)).0)
 
 -- A stretch of quiet slots alone.
 pub pass_is_quiet : {x : State} {store : List ℕ} {n : ℕ} {r : Passed} {m : Arrays} {counts : ByQueue}
@@ -69,8 +69,8 @@ pub pass_is_quiet : {x : State} {store : List ℕ} {n : ℕ} {r : Passed} {m : A
 pass_is_quiet {x} {store} {n} {r} all counted alone p ready = record {
   stretch = record {
     passed_is = omega (arith, all, counted);
-    quiet_first = first_quiet x store r.passed p.steps-quiet;
-    last_is = alone ∙ sym (last_quiet x store r.passed p.steps-quiet);
+    quiet_first = first_quiet x store r.passed p.steps_quiet;
+    last_is = alone ∙ sym (last_quiet x store r.passed p.steps_quiet);
   };
   state_is = sym p.state_is;
   store_is = sym p.store_is;
@@ -94,16 +94,16 @@ module _ {x y : State} {store : List ℕ} {n k : ℕ} {a : Advanced} {m : Arrays
       ∙ ap (λ (bytes : List ℕ). slot paper (last_state paper x store (idles k)) bytes idle) (sym p.store_is)
       ∙ ap (λ (i : ℕ). slot paper (last_state paper x store (idles i)) (last_store paper x store (idles i)) idle)
       before_last
-      ∙ sym (last-is-slot paper x store (k + 1) (omega arith))
+      ∙ sym (last_is_slot paper x store (k + 1) (omega arith))
 
   pub pass_once_more : PassSays x store n (once_more k a) m counts store'
   pass_once_more = record {
     stretch = record {
       passed_is = omega (arith, more, counted);
-      quiet_first = subst (λ (i : ℕ). All QuietStep (run paper x store (idles i))) before_last p.steps-quiet;
+      quiet_first = subst (λ (i : ℕ). All QuietStep (run paper x store (idles i))) before_last p.steps_quiet;
       last_is = ap (λ (b : Answer). b.reply) last_is;
     };
-    state_is = ap (λ (b : Answer). b.state) last_is ∙ sym (last-leaves paper x store (k + 1)).0;
-    store_is = ap (λ (b : Answer). b.store) last_is ∙ sym (last-leaves paper x store (k + 1)).1;
+    state_is = ap (λ (b : Answer). b.state) last_is ∙ sym (last_leaves paper x store (k + 1)).0;
+    store_is = ap (λ (b : Answer). b.store) last_is ∙ sym (last_leaves paper x store (k + 1)).1;
     ready = says.ready;
   }

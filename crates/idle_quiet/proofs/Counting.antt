@@ -10,7 +10,7 @@ use Rattle.model.specs.Sizes.{Sizes, lookahead}
 use Rattle.model.specs.State.{Cell}
 use Rattle.model.specs.Slot.{fullest, refill_queue, Refill}
 use Rattle.model.specs.Idle.{leading_empties, some_queue, move_due, quiet_of}
-use Rattle.model.proofs.idle.QuietCount.{scan-past-empties}
+use Rattle.model.proofs.idle.QuietCount.{scan_past_empties}
 use Rattle.lookahead.specs.Says.{scan_ends, Scanned}
 
 -- The three counts.
@@ -48,4 +48,4 @@ module _ (s : Sizes) (tails heads : ℕ → ℕ) (cells : List Cell) (written : 
           ∙ sym (ap (λ (r : Refill). r.queue) (scanned.ends []))
           ∙ ap (refill_queue heads) (append-nil (drop empties cells))
           ∙ ap (λ (k : ℕ). refill_queue heads (drop k cells)) leading
-          ∙ scan-past-empties heads cells
+          ∙ scan_past_empties heads cells

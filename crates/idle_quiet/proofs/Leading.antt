@@ -6,7 +6,7 @@ use native.Mathlib.Omega.{arith}
 use lib.ListN.{length, drop, get_or, drop_of_length-le}
 use Rattle.model.specs.State.{Cell}
 use Rattle.model.specs.Idle.{leading_empties}
-use Rattle.model.proofs.idle.QuietCount.{leading-within}
+use Rattle.model.proofs.idle.QuietCount.{leading_within}
 use Rattle.layout.specs.Entries.{cell_for, cell_of, cells_in}
 use Rattle.layout.proofs.Cells.{cell_empty, cells_length, cells_from}
 
@@ -21,7 +21,7 @@ unfolding cell_of
 cell_ends c cells h = kind_ends (c / 65536) (c / 256 % 256) (c % 256) cells (omega arith)
 
 pub leading_fits : (l : ℕ) (xs : List ℕ) → l ≤ length xs → leading_empties (cells_in l xs) ≤ l
-leading_fits l xs fits = omega (arith, leading-within (cells_in l xs), cells_length l xs fits)
+leading_fits l xs fits = omega (arith, leading_within (cells_in l xs), cells_length l xs fits)
 
 -- The count before cell i: the first i of l cells are empty.
 pub record LeadsTo (i l : ℕ) (xs : List ℕ) : Type 0 where

@@ -11,7 +11,7 @@ use Rattle.model.specs.Idle.{turned, quietly, NothingToMove, Quiet, leading_empt
 use Rattle.model.proofs.one_slot.Rules.{Keeps}
 use Rattle.model.proofs.basics.States.{same-state}
 use Rattle.model.proofs.idle.QuietSlots.{PassedQuietly}
-use Rattle.model.proofs.idle.QuietCount.{nothing-due, counted-quiet, counted-shift, counted-turn, owed-quietly}
+use Rattle.model.proofs.idle.QuietCount.{nothing-due, counted_quiet, counted_shift, counted_turn, owed_quietly}
 use Rattle.layout.specs.Entries.{counts_in}
 use Rattle.layout.specs.declared.Regs.{Regs}
 use Rattle.layout.specs.Views.{Arrays, arrays, sizes_in, state_in}
@@ -75,7 +75,7 @@ module _ (regs : Regs) (m : Arrays) (store : List ℕ) (counts : ByQueue)
       subst (PassedQuietly paper x store count)
       (ap (λ (p : ℕ). state_in (with_phase p regs) m) (sym phase_is))
       (subst (λ (k : ℕ). PassedQuietly paper x store k (turned k x)) counted_is
-      (counted-turn paper_limits x store kept long due not-due n (sym leading ∙ all)))
+      (counted_turn paper_limits x store kept long due not-due n (sym leading ∙ all)))
 
   pub tallies_turned : Tallies (state_in (with_phase phase regs) m) counts
   tallies_turned = record {
@@ -99,12 +99,12 @@ module _ (regs : Regs) (m : Arrays) (store : List ℕ) (counts : ByQueue)
         (same-state (quietly count x) y refl (sym phase_is) refl refl (sym shifted.cells_are) refl refl refl
         refl)
         (subst (λ (k : ℕ). PassedQuietly paper x store k (quietly k x)) counted_is
-        (counted-shift paper_limits x store kept long due not-due n leads_some))
+        (counted_shift paper_limits x store kept long due not-due n leads_some))
 
     quiet : Quiet count x
     quiet =
         subst (λ (k : ℕ). Quiet k x) counted_is
-        (counted-quiet paper_limits x store kept long due not-due n leads_some)
+        (counted_quiet paper_limits x store kept long due not-due n leads_some)
 
     pub tallies_shifted : Tallies y counts
     tallies_shifted = record {
@@ -114,7 +114,7 @@ module _ (regs : Regs) (m : Arrays) (store : List ℕ) (counts : ByQueue)
         long = tallies.owed_are.long;
         count_is = λ q.
             tallies.owed_are.count_is q
-            ∙ sym (owed-quietly q count x quiet)
+            ∙ sym (owed_quietly q count x quiet)
             ∙ ap (owed_of q) (sym shifted.cells_are);
       };
     }

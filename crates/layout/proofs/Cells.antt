@@ -13,9 +13,9 @@ use borrow.Author.Tests.{ltb-true}
 use Rattle.model.specs.Basics.{all_of}
 use Rattle.model.specs.State.{Cell, empty, held, owed, owes, owed_of, cell_below}
 use Rattle.model.specs.Slot.{refill_by, onward}
-use Rattle.model.proofs.basics.Tests.{by-test, true-not-false}
-use Rattle.model.proofs.basics.AllOf.{all-of-at, all-of-more}
-use Rattle.model.proofs.basics.Cells.{owed-append}
+use Rattle.model.proofs.basics.Tests.{by_test, true_not_false}
+use Rattle.model.proofs.basics.AllOf.{all_of_at, all_of_more}
+use Rattle.model.proofs.basics.Cells.{owed_append}
 use Rattle.layout.specs.Entries.{cell_for, cell_of, cells_in}
 
 -- The queue of the cell at a place of an array.
@@ -109,7 +109,7 @@ cells_stored n xs c h = rw (add-one, take-suc-set xs n c) (map-append cell_of (t
 pub owed_more : (q n : ℕ) (xs : List ℕ) → n < length xs
     → owed_of q (cells_in (n + 1) xs) ≡ owed_of q (cells_in n xs) + owes q (cell_of (get_or xs n 0))
 owed_more q n xs h =
-    rw (cells_more n xs h) (omega (arith, owed-append q (cells_in n xs) (cell_of (get_or xs n 0) ∷ [])))
+    rw (cells_more n xs h) (omega (arith, owed_append q (cells_in n xs) (cell_of (get_or xs n 0) ∷ [])))
 
 -- The cell at a place.
 pub cell_at : (n : ℕ) (xs : List ℕ) (i : ℕ) → i < n → get_or (cells_in n xs) i (cell_of 0) ≡ cell_of (get_or xs i 0)
@@ -127,12 +127,12 @@ module _ {n i : ℕ} (xs : List ℕ) (fits : n ≤ length xs) (more : i < n) whe
   all_cells_at : (test : Cell → Bool) → all_of test (cells_in n xs) ≡ true → test (cell_of (get_or xs i 0)) ≡ true
   all_cells_at test e =
       let l : i < length (cells_in n xs) = omega (arith, cells_length n xs fits) in
-      rw (← cell_at n xs i more) (all-of-at test (cells_in n xs) i (cell_of 0) e l)
+      rw (← cell_at n xs i more) (all_of_at test (cells_in n xs) i (cell_of 0) e l)
 
   pub not-all_cells : (test : Cell → Bool) → test (cell_of (get_or xs i 0)) ≡ false → all_of test (cells_in n xs) ≡ false
   not-all_cells test f =
-      by-test (all_of test (cells_in n xs))
-      (λ e. absurd (true-not-false (test (cell_of (get_or xs i 0))) (all_cells_at test e) f))
+      by_test (all_of test (cells_in n xs))
+      (λ e. absurd (true_not_false (test (cell_of (get_or xs i 0))) (all_cells_at test e) f))
       (λ e. e)
 
   -- A cell that is not empty has a queue below the bound.
@@ -143,4 +143,4 @@ module _ {n i : ℕ} (xs : List ℕ) (fits : n ≤ length xs) (more : i < n) whe
 -- A test of one cell more.
 pub all_cells_more : {i : ℕ} (xs : List ℕ) (test : Cell → Bool) → i < length xs → all_of test (cells_in i xs) ≡ true
     → test (cell_of (get_or xs i 0)) ≡ true → all_of test (cells_in (i + 1) xs) ≡ true
-all_cells_more {i} xs test h e f = rw (cells_more i xs h) (all-of-more test (cells_in i xs) (cell_of (get_or xs i 0)) e f)
+all_cells_more {i} xs test h e f = rw (cells_more i xs h) (all_of_more test (cells_in i xs) (cell_of (get_or xs i 0)) e f)

@@ -9,8 +9,8 @@ use lib.Dec.{ltb}
 use lib.ListN.{length, take, length-take, length-map}
 use borrow.Author.Tests.{ltb-true, ltb-false}
 use Rattle.model.specs.Sizes.{Sizes, paper_limits, accepts, tail_size, head_size}
-use Rattle.model.proofs.basics.Tests.{by-test}
-use Rattle.model.proofs.basics.Limits.{Within, within-limits}
+use Rattle.model.proofs.basics.Tests.{by_test}
+use Rattle.model.proofs.basics.Limits.{Within, within_limits}
 use Rattle.layout.specs.Entries.{byte_of, bytes_in}
 use Rattle.layout.proofs.Entries.{bytes-length}
 use Rattle.layout.specs.Lengths.{tail_places, head_places}
@@ -19,21 +19,21 @@ use Rattle.layout.specs.Views.{Arrays, Long, sizes_in, state_in}
 
 pub tail_below_array : (s : Sizes) → accepts paper_limits s ≡ true → tail_size s < tail_places
 tail_below_array s e =
-    by-test (ltb s.b 128)
-    (λ t. omega (arith, limits.span-high, ltb-true s.b 128 t))
+    by_test (ltb s.b 128)
+    (λ t. omega (arith, limits.span_high, ltb-true s.b 128 t))
     (λ t. largest (whole t))
   where
     limits : Within paper_limits s
-    limits = within-limits paper_limits s e
+    limits = within_limits paper_limits s e
 
     whole : ltb s.b 128 ≡ false → s.b ≡ 128
-    whole t = omega (arith, limits.b-high, ltb-false s.b 128 t)
+    whole t = omega (arith, limits.b_high, ltb-false s.b 128 t)
 
     largest : s.b ≡ 128 → tail_size s < tail_places
-    largest w = omega (arith, limits.span-high, w, ap (λ (n : ℕ). s.Q * (n - 1)) w)
+    largest w = omega (arith, limits.span_high, w, ap (λ (n : ℕ). s.Q * (n - 1)) w)
 
 pub head_below_array : (s : Sizes) → accepts paper_limits s ≡ true → head_size s < head_places
-head_below_array s e = omega (arith, (within-limits paper_limits s e).span-high)
+head_below_array s e = omega (arith, (within_limits paper_limits s e).span_high)
 
 -- A fill whose bytes are fewer than the array's entries lies within it.
 pub fill_within : (n : ℕ) (xs : List ℕ) → length (bytes_in n xs) < length xs → n < length xs

@@ -51,7 +51,7 @@ pub fresh_in : (q b k : ℕ) → accepts paper_limits (sizes q b k) ≡ true
     → state_in (fresh_regs q b k) fresh_arrays ≡ fresh paper (sizes q b k)
 fresh_in q b k e =
     same-state (sizes q b k) refl (bytes-none (replicate tail_places 0)) (bytes-none (replicate head_places 0))
-    (zero_cells (lookahead (sizes q b k)) cell_places (omega (arith, (in_limits (fresh_regs q b k) e).span-high)))
+    (zero_cells (lookahead (sizes q b k)) cell_places (omega (arith, (in_limits (fresh_regs q b k) e).span_high)))
     (zero_rings q queue_places)
     refl refl refl
 

@@ -7,7 +7,7 @@ use lib.Dec.{eqb}
 use lib.ListN.{length, set, get_or, length-set}
 use borrow.Author.Tests.{eqb-true}
 use Rattle.model.specs.State.{owed}
-use Rattle.model.proofs.basics.Tests.{by-test}
+use Rattle.model.proofs.basics.Tests.{by_test}
 use Rattle.layout.specs.Lengths.{queue_places}
 use Rattle.layout.specs.Entries.{counts_in, cell_of}
 use Rattle.layout.specs.Counts.{CountsAre}
@@ -40,7 +40,7 @@ spends_one counts cell long h below = record {
   long = length-set counts q (get_or counts q 0 - 1) ∙ long;
   count_is = λ p.
       ap (λ (f : ℕ → ℕ). f p) (counts_stored counts q (get_or counts q 0 - 1) (omega (arith, long)))
-      ∙ by-test (eqb q p)
+      ∙ by_test (eqb q p)
       (λ t. rw (cell_owed cell h, t) (omega (arith, ap (counts_in counts) (eqb-true q p t))))
       (λ t. rw (cell_owed cell h, t) (omega arith));
 }

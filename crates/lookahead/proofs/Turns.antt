@@ -12,8 +12,8 @@ use mir.Val.{bool_byte}
 use borrow.Author.Tests.{eqb-true, eqb-false, leb-true, leb-false}
 use Rattle.model.specs.State.{Cell, empty, held, owed, owes, owed_of}
 use Rattle.model.specs.Slot.{refill_place, refill_by, onward}
-use Rattle.model.proofs.basics.Tests.{by-test}
-use Rattle.model.proofs.meaning.Place.{refill-stops, refill-goes-on, onward-on, places-on-none}
+use Rattle.model.proofs.basics.Tests.{by_test}
+use Rattle.model.proofs.meaning.Place.{refill_stops, refill_goes_on, onward-on, places_on_none}
 use Rattle.layout.specs.Lengths.{queue_places}
 use Rattle.layout.specs.Entries.{counts_in, cells_in}
 use Rattle.layout.proofs.Counts.{counts_zero, counts_stored}
@@ -79,7 +79,7 @@ scan_starts {from} {l} {xs} {credits} h long = record {
   within = h;
   long = long;
   goes_on = λ rest.
-      rw (nothing-between, places-on-none (refill_place (counts_in credits) (drop from (cells_in l xs) ++ rest)));
+      rw (nothing-between, places_on_none (refill_place (counts_in credits) (drop from (cells_in l xs) ++ rest)));
 }
   where
     nothing-between : from - from ≡ 0
@@ -126,7 +126,7 @@ module _ {i from l : ℕ} {xs credits left : List ℕ} (fits : l ≤ length xs) 
       unfolding counts_in
       stops_here uncovered rest =
           rw owed_next
-          (refill-stops (counts_in left) (queue_at xs i) (drop (i + 1) (cells_in l xs) ++ rest) uncovered)
+          (refill_stops (counts_in left) (queue_at xs i) (drop (i + 1) (cells_in l xs) ++ rest) uncovered)
 
       pub scan_finds : get_or left (queue_at xs i) 0 ≡ 0
           → Scanned (counts_in credits) (drop from (cells_in l xs)) (some (queue_at xs i)) (i - from) (counts_in left)
@@ -148,7 +148,7 @@ module _ {i from l : ℕ} {xs credits left : List ℕ} (fits : l ≤ length xs) 
             owed_next,
             counts_stored left (queue_at xs i) (get_or left (queue_at xs i) 0 - 1) (omega (arith, w.long)),
           )
-          (refill-goes-on (counts_in left) (queue_at xs i) (drop (i + 1) (cells_in l xs) ++ rest) covered))
+          (refill_goes_on (counts_in left) (queue_at xs i) (drop (i + 1) (cells_in l xs) ++ rest) covered))
 
     -- What a cell takes of its queue's credits, 1 where it is Owed and else 0, they cover or not.
     abbrev takes : ℕ
@@ -157,7 +157,7 @@ module _ {i from l : ℕ} {xs credits left : List ℕ} (fits : l ≤ length xs) 
     pub scan_covers : queue_at xs i < queue_places → takes ≤ get_or left (queue_at xs i) 0
         → ScannedTo (i + 1) from l xs credits (set left (queue_at xs i) (get_or left (queue_at xs i) 0 - takes))
     scan_covers below covered =
-        by-test (leb 131072 (get_or xs i 0))
+        by_test (leb 131072 (get_or xs i 0))
         (λ t. rw t (scan_spends (leb-true 131072 (get_or xs i 0) t) below (rw t at covered)))
         (λ t.
         let same : get_or left (queue_at xs i) 0 - 0 ≡ get_or left (queue_at xs i) 0 = omega arith in
@@ -167,7 +167,7 @@ module _ {i from l : ℕ} {xs credits left : List ℕ} (fits : l ≤ length xs) 
     pub scan_lacks : get_or left (queue_at xs i) 0 < takes
         → Scanned (counts_in credits) (drop from (cells_in l xs)) (some (queue_at xs i)) (i - from) (counts_in left)
     scan_lacks lacking =
-        by-test (leb 131072 (get_or xs i 0))
+        by_test (leb 131072 (get_or xs i 0))
         (λ t. scan_finds (leb-true 131072 (get_or xs i 0) t) (omega (arith, rw t at lacking)))
         (λ t. absurd (omega (arith, rw t at lacking)))
 
@@ -191,7 +191,7 @@ scan_empties {i} {from} {l} {to} {xs} {credits} {left} fits w first past =
   where
     others : (j : ℕ) → i ≤ j → j < i + (to - i) → get_or xs j 0 < 131072
     others j a b =
-        by-test (eqb i j)
+        by_test (eqb i j)
         (λ t. let e : i ≡ j = eqb-true i j t in rw e at (let x : get_or xs i 0 < 131072 = omega (arith, first) in x))
         (λ t. omega (arith, past.empties j (omega (arith, a, eqb-false i j t)) (omega (arith, b, past.onward))))
 
@@ -205,9 +205,9 @@ empty_two_more {from} {i} {l} {xs} w more both = record {
   onward = omega (arith, w.onward);
   within = omega (arith, more);
   empties = λ j a b.
-      by-test (eqb i j)
+      by_test (eqb i j)
       (λ t. let e : i ≡ j = eqb-true i j t in rw e at (let x : get_or xs i 0 < 65536 = omega (arith, both) in x))
-      (λ t. by-test (eqb (i + 1) j)
+      (λ t. by_test (eqb (i + 1) j)
       (λ u. let e : i + 1 ≡ j = eqb-true (i + 1) j u in
       rw e at (let x : get_or xs (i + 1) 0 < 65536 = omega (arith, both) in x))
       (λ u. w.empties j a (omega (arith, b, eqb-false i j t, eqb-false (i + 1) j u))));
@@ -233,7 +233,7 @@ count_raised : (counts : List ℕ) (q p : ℕ) → q < length counts
 unfolding counts_in
 count_raised counts q p h =
     ap (λ (f : ℕ → ℕ). f p) (counts_stored counts q (get_or counts q 0 + 1) h)
-    ∙ by-test (eqb q p)
+    ∙ by_test (eqb q p)
     (λ t. rw t (omega (arith, ap (counts_in counts) (eqb-true q p t))))
     (λ t. rw t (omega arith))
 
@@ -242,7 +242,7 @@ owed_at_most q [] = omega arith
 owed_at_most q (empty ∷ cells) = omega (arith, owed_at_most q cells)
 owed_at_most q (held p v ∷ cells) = omega (arith, owed_at_most q cells)
 owed_at_most q (owed p ∷ cells) =
-    by-test (eqb p q)
+    by_test (eqb p q)
     (λ t. rw t (omega (arith, owed_at_most q cells)))
     (λ t. rw t (omega (arith, owed_at_most q cells)))
 

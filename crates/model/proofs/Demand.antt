@@ -25,15 +25,15 @@ use Rattle.model.proofs.basics.AllOf.{◌also◌}
 use Rattle.model.proofs.basics.Tests.{and_both, between-holds}
 use Rattle.model.proofs.basics.FirstRefusal.{not_first, when-excluded}
 use Rattle.model.proofs.basics.Rings.{ring-fresh}
-use Rattle.model.proofs.meaning.Steps.{head-looked-at}
+use Rattle.model.proofs.meaning.Steps.{head_looked_at}
 use Rattle.model.proofs.one_slot.Rules.{keeps-holds}
-use Rattle.model.proofs.one_slot.Accepted.{RefusedOrAccepted, was-refused, was_accepted, outcome}
-use Rattle.model.proofs.one_slot.Kept.{looked-at-fits, carried-kept}
-use Rattle.model.proofs.one_slot.Chains.{Links, no-link, link, links, run-chain}
-use Rattle.model.proofs.no_miss.Good.{Good, slot-good, good-fresh, good-noted}
+use Rattle.model.proofs.one_slot.Accepted.{RefusedOrAccepted, was_refused, was_accepted, outcome}
+use Rattle.model.proofs.one_slot.Kept.{looked_at_fits, carried_kept}
+use Rattle.model.proofs.one_slot.Chains.{Links, no_link, link, links, run-chain}
+use Rattle.model.proofs.no_miss.Good.{Good, slot-good, good_fresh, good_noted}
 use Rattle.model.proofs.delay.IdealSlot.{same-ideal}
-use Rattle.model.proofs.delay.Delay.{Delays, gives, chain-delays, given-is-due, due-from-nothing}
-use Rattle.model.proofs.delay.Delay.{arrived-since-fresh}
+use Rattle.model.proofs.delay.Delay.{Delays, gives, chain_delays, given-is_due, due_from_nothing}
+use Rattle.model.proofs.delay.Delay.{arrived_since_fresh}
 use Rattle.model.proofs.delay.Sentences.{sentences}
 use Rattle.model.proofs.missing.Misses.{misses}
 
@@ -45,22 +45,22 @@ module _ (limits : Limits) where
       → length store ≡ n → RefusedOrAccepted (full limits) x store call a → P (step_of x store call (noting noted a)))
       → {x : State} {store : List ℕ} {steps : List Step} {last : State} → Links (full limits) x store steps last
       → Good limits x → x.sizes ≡ s → length store ≡ n → All P steps
-  along P s n f no-link g e l = tt
+  along P s n f no_link g e l = tt
   along P s n f (link {x = x} {store = store} call noted below c) g e l =
       let a = slot (full limits) x store call in
       let t = outcome (full limits) x store call in
       let k = slot-good limits x store call a g t in (
         f x store call a noted g e l t,
         along P s n f c
-            (good-noted limits a.state noted
-            (rw k.same_sizes (below g.kept.last_below)) k.good)
-            (k.same_sizes ∙ e) (k.same_length ∙ l),
+            (good_noted limits a.state noted
+            (rw k.same-sizes (below g.kept.last_below)) k.good)
+            (k.same-sizes ∙ e) (k.same_length ∙ l),
       )
 
   -- The caches hold, whether the slot is refused or accepted.
   call_caches : (x : State) (store : List ℕ) (call : Call) (a : Answer) (noted : ℕ) → Good limits x
       → RefusedOrAccepted (full limits) x store call a → CachesHold x.sizes (step_of x store call (noting noted a))
-  call_caches x store call a noted g (was-refused n e) = record {
+  call_caches x store call a noted g (was_refused n e) = record {
     tail_joined = g.kept.tail_fits;
     tail_ends = g.kept.tail_fits;
     head_read = g.kept.head_fits;
@@ -68,18 +68,18 @@ module _ (limits : Limits) where
   }
   call_caches x store call a noted g (was_accepted f) =
       let left = halves_taken x call in
-      let k = (carried-kept (full limits) x store left (omega arith) {i = 0} {j = 0} f).kept in record {
+      let k = (carried_kept (full limits) x store left (omega arith) {i = 0} {j = 0} f).kept in record {
         tail_joined =
-            omega (arith, looked-at-fits (full limits) x store left (omega arith) f.judged, k.tail_fits);
+            omega (arith, looked_at_fits (full limits) x store left (omega arith) f.judged, k.tail_fits);
         tail_ends = k.tail_fits;
-        head_read = omega (arith, head-looked-at x store left, k.head_fits);
+        head_read = omega (arith, head_looked_at x store left, k.head_fits);
         head_ends = k.head_fits;
       }
 
   -- A refused slot delivers nothing and moves nothing: its answer is `refuse`.
   refused-silent : (x : State) (store : List ℕ) (call : Call) (a : Answer) (noted : ℕ)
       → RefusedOrAccepted (full limits) x store call a → RefusedSilent (step_of x store call (noting noted a))
-  refused-silent x store call a noted (was-refused n e) = record {
+  refused-silent x store call a noted (was_refused n e) = record {
     delivers_nothing = λ z. refl;
     writes_nothing = λ z. refl;
     reads_nothing = λ z. refl;
@@ -106,7 +106,7 @@ module _ (limits : Limits) where
       → (2 ≡ bad → ltb (length store) (store_bytes x.sizes) ≡ false)
       → RefusedOrAccepted (full limits) x store call a → a.reply.number ≡ bad → ⊥
   never bad pos low x store call a three two (was_accepted f) e = omega (arith, e)
-  never bad pos low x store call a three two (was-refused n f) e =
+  never bad pos low x store call a three two (was_refused n f) e =
       not_first bad (refusals (full limits) x store call) pos (
       when-excluded bad (not (keeps (full limits) x)) 3 pos three
       also when-excluded bad (ltb (length store) (store_bytes x.sizes)) 2 pos two
@@ -148,7 +148,7 @@ every_chain limits s store steps last e c = record {
   bytes = record {
     delay = d.delivers ∙ ap
         (λ (l : List (Option Byte)). take (length slots) (replicate (lookahead s) none ++ l)) due;
-    in_time = arrived-since-fresh slots d.finds;
+    in_time = arrived_since_fresh slots d.finds;
   };
   refused = all RefusedSilent (λ y st call a noted g f l t. refused-silent limits y st call a noted t);
   caches = all (CachesHold s) (λ y st call a noted g f l t.
@@ -167,7 +167,7 @@ every_chain limits s store steps last e c = record {
     x = fresh (full limits) s
 
     good : Good limits x
-    good = good-fresh limits s e
+    good = good_fresh limits s e
 
     all : (P : Step → Type 0)
         → ((y : State) (st : List ℕ) (call : Call) (a : Answer) (noted : ℕ) → Good limits y → y.sizes ≡ s
@@ -181,12 +181,12 @@ every_chain limits s store steps last e c = record {
 
     d : Delays (quiet s) slots
     d = subst (λ (i : Ideal). Delays i slots) (stands_fresh limits s store)
-        (chain-delays (full limits) (omega arith) good.kept (links (full limits) c))
+        (chain_delays (full limits) (omega arith) good.kept (links (full limits) c))
 
     due : gives (λ q. []) slots ≡ due_to_all slots
     due =
-        given-is-due (λ q. []) slots d.finds
-        ∙ ap (tabulate (length slots)) (fun_ext (λ t. due-from-nothing slots t (request_at slots t)))
+        given-is_due (λ q. []) slots d.finds
+        ∙ ap (tabulate (length slots)) (fun_ext (λ t. due_from_nothing slots t (request_at slots t)))
 
 -- Every list of slots is one.
 pub every_list : (limits : Limits) (s : Sizes) (store : List ℕ) (calls : List Call) → accepts limits s ≡ true
@@ -201,7 +201,7 @@ pub list_stops_low : (limits : Limits) (s : Sizes) (store : List ℕ) (calls : L
 list_stops_low limits s store calls e =
     along limits (λ (step : Step). step.reply.number ≤ 6) s (length store)
     (λ y st call a noted g f l t. (slot-good limits y st call a g t).low)
-    (links (full limits) (run-chain (full limits) (fresh (full limits) s) store calls)) (good-fresh limits s e)
+    (links (full limits) (run-chain (full limits) (fresh (full limits) s) store calls)) (good_fresh limits s e)
     refl refl
 
 -- The whole of demand 3, under any limits; under the paper's it is demand 3 of the accepted sizes.

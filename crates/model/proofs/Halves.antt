@@ -18,9 +18,9 @@ use Rattle.model.specs.Lists.{taken}
 use Rattle.model.specs.Halves.{RunsAs, HalvesSay}
 use Rattle.model.proofs.basics.AllOf.{◌also◌}
 use Rattle.model.proofs.basics.FirstRefusal.{not_first, when-excluded}
-use Rattle.model.proofs.meaning.Steps.{dropped-arrival-gone, dropped-request-gone}
-use Rattle.model.proofs.one_slot.Halves.{arrival-stays, left-not-full, left-something, left-arrival-known}
-use Rattle.model.proofs.one_slot.Halves.{left-request-known, left-swaps, left-once, swap-left}
+use Rattle.model.proofs.meaning.Steps.{dropped_arrival_gone, dropped_request_gone}
+use Rattle.model.proofs.one_slot.Halves.{arrival-stays, left-not_full, left-something, left-arrival_known}
+use Rattle.model.proofs.one_slot.Halves.{left-request_known, left-swaps, left-once, swap_left}
 use Rattle.model.proofs.one_slot.Accepted.{refusal-told, left-accepted}
 
 module _ (design : Design) (x : State) (store : List ℕ) (call : Call) where
@@ -30,10 +30,10 @@ module _ (design : Design) (x : State) (store : List ℕ) (call : Call) where
   -- A number that no stop has is never answered.
   never_stops_with : (bad : ℕ) → (bad ≡ 2 → ⊥) → (bad ≡ 3 → ⊥) → (bad ≡ 4 → ⊥) → (bad ≡ 6 → ⊥) → 1 ≤ bad → bad ≤ 7
       → (slot design x store call).reply.number ≡ bad → ⊥
-  never_stops_with bad not_2 not_3 not-4 not-6 pos low e =
+  never_stops_with bad not-2 not-3 not-4 not-6 pos low e =
       not_first bad (refusals design x store call) pos
-      (other (not (keeps design x)) 3 not_3
-      also other (ltb (length store) (store_bytes x.sizes)) 2 not_2
+      (other (not (keeps design x)) 3 not-3
+      also other (ltb (length store) (store_bytes x.sizes)) 2 not-2
       also other (arrival_unknown x call.arrival) 4 not-4
       also other (request_unknown x call.request) 6 not-6
       also other (leaves_uncovered (oldest_cell x.cells) x) 8 (λ h. omega (arith, h))
@@ -56,10 +56,10 @@ module _ (design : Design) (x : State) (store : List ℕ) (call : Call) where
       ap (λ (n : ℕ). answer n x store left)
       (left-accepted design x store call (sym (refusal-told design x store call) ∙ e))
       ∙ ap (λ (t : Bool). carried_out (when t 5) (when (request_drops x left) 7) x store (halves_taken x left))
-      (left-not-full x call)
+      (left-not_full x call)
       ∙ ap (λ (c : Call). carried_out 0 (when (request_drops x left) 7) x store c) (left-once x call)
       ∙ ap (λ (a : Option Byte). carried_out 0 (when (nothing_to_take x a left.request) 7) x store left)
-      (arrival-stays x left (left-not-full x call))
+      (arrival-stays x left (left-not_full x call))
       ∙ ap (λ (t : Bool). carried_out 0 (when t 7) x store left) (left-something x call)
 
   runs_without_it : (slot design x store call).reply.number ≡ 0
@@ -117,9 +117,9 @@ module _ (design : Design) (x : State) (store : List ℕ) (call : Call) where
       ∙ ap (λ (t : Bool). first_refusal (judged_by 0 (when t 6) left)) asked-known
       ∙ sym (ap (λ (t : Bool).
       first_refusal (judged_by (when t 4) (when (request_unknown x left.request) 6) (halves_taken x left)))
-      (left-arrival-known x call known)
+      (left-arrival_known x call known)
       ∙ ap (λ (t : Bool). first_refusal (judged_by 0 (when t 6) (halves_taken x left)))
-      (left-request-known x call asked-known)
+      (left-request_known x call asked-known)
       ∙ ap (λ (c : Call). first_refusal (judged_by 0 0 c)) (left-once x call))
       ∙ sym (refusal-told design x store left)
 
@@ -133,7 +133,7 @@ module _ (design : Design) (x : State) (store : List ℕ) (call : Call) where
       also other (request_unknown x call.request) 6 (λ h. omega (arith, h))
       also other (leaves_uncovered (oldest_cell x.cells) x) 8 (λ h. omega (arith, h))
       also when-excluded 9 (tail_full x left.arrival left.request) 9 (omega arith)
-      (λ h. ap (λ (a : Option Byte). tail_full x a left.request) (dropped-arrival-gone x call full))
+      (λ h. ap (λ (a : Option Byte). tail_full x a left.request) (dropped_arrival_gone x call full))
       also other (head_full (wrote x left) (queue_to_read (wrote x left))) 10 (λ h. omega (arith, h))
       also tt)
       (sym (refusal-told design x store call) ∙ e)
@@ -156,14 +156,14 @@ halves_say design = record {
   five_exactly = λ x store call e. ap (λ (a : Answer). a.reply.arrival_number) (is_accepted design x store call e);
   seven_exactly = λ x store call e. ap (λ (a : Answer). a.reply.request_number) (is_accepted design x store call e);
   runs_without_it = runs_without_it design;
-  arrival_gone = dropped-arrival-gone;
+  arrival_gone = dropped_arrival_gone;
   arrival-there = arrival-stays;
-  request_gone = dropped-request-gone;
+  request_gone = dropped_request_gone;
   request-there = λ x call e. ap (λ (t : Bool). choose t none call.request) e;
   stops_without_it = stops_without_it design;
   never_9_with_5 = never_9_with_5 design;
   only-answer = only-answer design;
-  swap_drops_nothing = swap-left;
+  swap_drops_nothing = swap_left;
   swaps_as_the_call = left-swaps;
   idle_drops_nothing = λ x. refl;
   stopped_takes_nothing = λ x store call n. (

@@ -18,33 +18,33 @@ use Rattle.model.specs.Lists.{Step, joined_fill_of, step_of, run, last_state, li
 use Rattle.model.specs.Arbiter.{noting}
 use Rattle.model.specs.Chains.{Chain}
 use Rattle.model.specs.HighMarks.{greatest, tail_looks, head_looks, GreatestFills, MarksRise, MarksExact}
-use Rattle.model.proofs.basics.Tests.{by-test}
-use Rattle.model.proofs.meaning.Steps.{tail-looked-at}
-use Rattle.model.proofs.one_slot.StepsKeepRules.{length-tail-left}
-use Rattle.model.proofs.one_slot.Swap.{early-is-none, late-is-none}
-use Rattle.model.proofs.one_slot.Accepted.{RefusedOrAccepted, was-refused, was_accepted, outcome}
-use Rattle.model.proofs.one_slot.Kept.{length-head-without}
-use Rattle.model.proofs.one_slot.Chains.{Links, no-link, link, links, run-chain}
+use Rattle.model.proofs.basics.Tests.{by_test}
+use Rattle.model.proofs.meaning.Steps.{tail_looked_at}
+use Rattle.model.proofs.one_slot.StepsKeepRules.{length-tail_left}
+use Rattle.model.proofs.one_slot.Swap.{early_is_none, late_is_none}
+use Rattle.model.proofs.one_slot.Accepted.{RefusedOrAccepted, was_refused, was_accepted, outcome}
+use Rattle.model.proofs.one_slot.Kept.{length-head_without}
+use Rattle.model.proofs.one_slot.Chains.{Links, no_link, link, links, run-chain}
 
 -- Request 2.8: "On a handed-in state the mark is the greater of the old one and the new fill." Of a state that keeps
--- the rules, since the mark of such a state is at least its fill already. (Of the head it is `head-mark-rises`, in
+-- the rules, since the mark of such a state is at least its fill already. (Of the head it is `head_mark_rises`, in
 -- proofs/meaning/Steps.)
 pub tail_mark_rises : (x : State) (store : List ℕ) (call : Call) → length x.tail ≤ x.tail_mark
     → (carried_out 0 0 x store call).state.tail_mark ≡ max x.tail_mark (joined_fill_of 0 x call)
 tail_mark_rises x store call h =
-    by-test (swaps x call.arrival call.request)
+    by_test (swaps x call.arrival call.request)
     (λ t. omega (
       arith,
       h,
       length-append x.tail (arriving (early_arrival x call)),
-      ap (λ (a : Option Byte). length (arriving a)) (early-is-none x call t),
+      ap (λ (a : Option Byte). length (arriving a)) (early_is_none x call t),
       looked_at t,
     ))
     (λ t. omega (
       arith,
       length-append (tail_left (joined x call) call.request) (arriving (late_arrival x call)),
-      ap (λ (a : Option Byte). length (arriving a)) (late-is-none x call t),
-      length-tail-left (joined x call) call.request,
+      ap (λ (a : Option Byte). length (arriving a)) (late_is_none x call t),
+      length-tail_left (joined x call) call.request,
       looked_at t,
     ))
   where
@@ -57,7 +57,7 @@ module _ (design : Design) where
   marks_more : (x : State) (store : List ℕ) (call : Call) (a : Answer) (noted : ℕ) (rest : List Step) (y : State)
       → RefusedOrAccepted design x store call a → MarksRise (noting noted a).state (accepted rest) y
       → MarksRise x (accepted (step_of x store call (noting noted a) ∷ rest)) y
-  marks_more x store call a noted rest y (was-refused n e) m = record {
+  marks_more x store call a noted rest y (was_refused n e) m = record {
     tail_mark = rw (ne_eqb (suc n) 0 (λ z. omega arith)) m.tail_mark;
     head_mark = rw (ne_eqb (suc n) 0 (λ z. omega arith)) m.head_mark;
   }
@@ -74,7 +74,7 @@ module _ (design : Design) where
 
   marks_rise : {x : State} {store : List ℕ} {steps : List Step} {last : State} → Links design x store steps last
       → MarksRise x (accepted steps) last
-  marks_rise no-link = record { tail_mark = omega arith; head_mark = omega arith }
+  marks_rise no_link = record { tail_mark = omega arith; head_mark = omega arith }
   marks_rise (link {x = x} {store = store} {steps = steps} {last = last} call noted below c) =
       marks_more x store call (slot design x store call) noted steps last (outcome design x store call) (marks_rise c)
 
@@ -106,12 +106,12 @@ module _ (design : Design) where
         joins_none =
             omega (
               arith,
-              tail-looked-at x left (ap (λ o. swaps x o left.request) e),
+              tail_looked_at x left (ap (λ o. swaps x o left.request) e),
               ap (λ o. length (arriving o)) e,
             )
 
         go : (a : Answer) → RefusedOrAccepted design x store call a → a.state.tail_mark ≡ x.tail_mark
-        go a (was-refused n r) = refl
+        go a (was_refused n r) = refl
         go a (was_accepted f) =
             omega (
               arith,
@@ -125,12 +125,12 @@ module _ (design : Design) where
       where
         go : (a : Answer) → RefusedOrAccepted design x store call a → a.reply.read ≡ none
             → a.state.head_mark ≡ x.head_mark
-        go a (was-refused n r) e = refl
+        go a (was_refused n r) e = refl
         go a (was_accepted f) e =
             omega (
               arith,
               ap (λ o. length (head_read o (wrote x left) (wrote_store x store left))) e,
-              length-head-without (oldest_cell x.cells) x.head,
+              length-head_without (oldest_cell x.cells) x.head,
               f.judged.kept.head_mark,
             )
 
@@ -141,7 +141,7 @@ module _ (design : Design) where
       where
         go : (a : Answer) → RefusedOrAccepted design x store call a → (a.reply.number ≡ 0 → ⊥)
             → (a.state.tail_mark ≡ x.tail_mark) × (a.state.head_mark ≡ x.head_mark)
-        go a (was-refused n r) other = (refl, refl)
+        go a (was_refused n r) other = (refl, refl)
         go a (was_accepted f) other = absurd (other refl)
 
 pub marks_exact : (design : Design) → MarksExact design

@@ -18,8 +18,8 @@ use Rattle.model.specs.Calls.{arrival, request, both, idle}
 use Rattle.model.specs.Examples.{taken, drops, refused, reads, ◌delivering◌, ◌⇒◌}
 use Rattle.model.specs.Examples.{made◌phase◌tail◌head◌cells◌blocks◌, slots, holds, sizes_taken, sizes_refused}
 use Rattle.model.specs.Examples.{sizes_are, block_is, no_block}
-use Rattle.model.proofs.basics.Tests.{by-test}
-use Rattle.model.proofs.basics.AllOf.{all-below-facts}
+use Rattle.model.proofs.basics.Tests.{by_test}
+use Rattle.model.proofs.basics.AllOf.{all_below_facts}
 
 -- The least and the greatest Q, b and K, and one beyond. Q(b - 1) is 2,016 in the last sizes taken and 2,020, the next
 -- that the other limits allow, in the last refused.
@@ -62,7 +62,7 @@ sixteen_grades = refl
 pub table_as_before : (g : ℕ) → g < 16 → get_or cycle_table g 0 ≡ cycle_time g
 table_as_before g l =
     eqb-true (get_or cycle_table g 0) (cycle_time g)
-    (all-below-facts 16 (λ n. eqb (get_or cycle_table n 0) (cycle_time n)) refl g l)
+    (all_below_facts 16 (λ n. eqb (get_or cycle_table n 0) (cycle_time n)) refl g l)
 
 -- The sizing rule by the table. Its limits are written out, so that it stays the rule as it was.
 abbrev block_by_table : ℕ → ℕ → ℕ
@@ -78,13 +78,13 @@ sized_by_table R g = choose (eqb (number_by_table R g) 0) (some (block_by_table 
 -- 15 the two cycle times differ, and the grade's limit refuses both.
 pub number_as_before : (R g : ℕ) → sizing_number R g ≡ number_by_table R g
 number_as_before R g =
-    by-test (leb g 15) (λ t. rw (table_as_before g (omega (arith, leb-true g 15 t)))) (λ t. rw t)
+    by_test (leb g 15) (λ t. rw (table_as_before g (omega (arith, leb-true g 15 t)))) (λ t. rw t)
 
 pub block_as_before : (R g : ℕ) → sized_block R g ≡ sized_by_table R g
 block_as_before R g =
-    by-test (leb g 15)
+    by_test (leb g 15)
     (λ t. rw (table_as_before g (omega (arith, leb-true g 15 t))))
-    (λ t. by-test (between 1 R 100) (λ u. rw (u, t)) (λ u. rw u))
+    (λ t. by_test (between 1 R 100) (λ u. rw (u, t)) (λ u. rw u))
 
 -- "3 is judged before 2 .. then the rest by number": slots that have cause for two refusals, and answer the first.
 -- 3 and 2: phase 2 with b 2, and no store. 2 and 4: no store, and an unknown queue.

@@ -19,14 +19,14 @@ use Rattle.model.specs.Lists.{Step, accepted, deliveries, request_at}
 use Rattle.model.specs.Chains.{Chain}
 use Rattle.model.specs.Ideal.{Ideal, stands_for}
 use Rattle.model.specs.SlotsLeft.{FirstUncovered, SlotsLeftSay, ReadsAt, LeavesThen}
-use Rattle.model.proofs.basics.Tests.{by-test, none-not-some}
-use Rattle.model.proofs.meaning.Place.{place_of_the_queue, place_none, read-place, no-read-no-place}
+use Rattle.model.proofs.basics.Tests.{by_test, none_not_some}
+use Rattle.model.proofs.meaning.Place.{place_of_the_queue, place_none, read_place, no_read_no_place}
 use Rattle.model.proofs.one_slot.Rules.{keeps-facts, keeps-fresh}
-use Rattle.model.proofs.one_slot.Accepted.{RefusedOrAccepted, was-refused, was_accepted, outcome}
+use Rattle.model.proofs.one_slot.Accepted.{RefusedOrAccepted, was_refused, was_accepted, outcome}
 use Rattle.model.proofs.one_slot.Kept.{rules-written}
 use Rattle.model.proofs.one_slot.Chains.{links}
-use Rattle.model.proofs.delay.Delay.{gives, chain-delays}
-use Rattle.model.proofs.delay.Foretold.{comes, ByteOf, foretold, given-was-asked}
+use Rattle.model.proofs.delay.Delay.{gives, chain_delays}
+use Rattle.model.proofs.delay.Foretold.{comes, ByteOf, foretold, given-was_asked}
 use Rattle.model.proofs.Demand.{stands_fresh}
 
 -- Of one slot: a refused one reads nothing, and of an accepted one it is the law of its state when it reads.
@@ -38,8 +38,8 @@ module _ (design : Design) (x : State) (store : List ℕ) (call : Call) where
   cell_that_waits q e = go (slot design x store call) (outcome design x store call) e
     where
       go : (a : Answer) → RefusedOrAccepted design x store call a → a.reply.read ≡ some q → Waits q a
-      go a (was-refused n r) e = absurd (none-not-some q e)
-      go a (was_accepted f) e = read-place (wrote x (halves_taken x call)) q e
+      go a (was_refused n r) e = absurd (none_not_some q e)
+      go a (was_accepted f) e = read_place (wrote x (halves_taken x call)) q e
 
   one_to_L : (q : ℕ) → 1 ≤ design.cell_count x.sizes → (slot design x store call).reply.read ≡ some q
       → (1 ≤ (slot design x store call).reply.slots_left)
@@ -48,9 +48,9 @@ module _ (design : Design) (x : State) (store : List ℕ) (call : Call) where
     where
       go : (a : Answer) → RefusedOrAccepted design x store call a → a.reply.read ≡ some q
           → (1 ≤ a.reply.slots_left) × (a.reply.slots_left ≤ design.cell_count x.sizes)
-      go a (was-refused n r) e = absurd (none-not-some q e)
+      go a (was_refused n r) e = absurd (none_not_some q e)
       go a (was_accepted f) e =
-          let place = read-place (wrote x (halves_taken x call)) q e in
+          let place = read_place (wrote x (halves_taken x call)) q e in
           let long = (rules-written design x store (halves_taken x call) h f.judged).cells_long in
           (place.at_least_1, omega (arith, place.within, long))
 
@@ -58,8 +58,8 @@ module _ (design : Design) (x : State) (store : List ℕ) (call : Call) where
   zero_without_a_read e = go (slot design x store call) (outcome design x store call) e
     where
       go : (a : Answer) → RefusedOrAccepted design x store call a → a.reply.read ≡ none → a.reply.slots_left ≡ 0
-      go a (was-refused n r) e = refl
-      go a (was_accepted f) e = no-read-no-place (wrote x (halves_taken x call)) e
+      go a (was_refused n r) e = refl
+      go a (was_accepted f) e = no_read_no_place (wrote x (halves_taken x call)) e
 
 pub slots_left_say : (design : Design) → SlotsLeftSay design
 slots_left_say design = record {
@@ -74,7 +74,7 @@ slots_left_say design = record {
 behind_none : (L k q : ℕ) (later : List (Option Byte)) → ByteOf q (replicate L none ++ later) k
     → (L ≤ k) × ByteOf q later (k - L)
 behind_none L k q later there =
-    by-test (leb L k)
+    by_test (leb L k)
     (λ t. let e : k ≡ length nothing + (k - L) = omega (arith, leb-true L k t, long) in (
       leb-true L k t,
       (
@@ -83,7 +83,7 @@ behind_none L k q later there =
             ∙ there.1,
       ),
     ))
-    (λ t. absurd (none-not-some (byte q there.0)
+    (λ t. absurd (none_not_some (byte q there.0)
     (sym (get_or-append nothing later none k (omega (arith, leb-false L k t, long))
     ∙ get_or-replicate L k none none (leb-false L k t))
     ∙ there.1)))
@@ -105,7 +105,7 @@ module _ (limits : Limits) where
       let there = foretold (full limits) (omega arith) v (links (full limits) c) t q n r in (
         there.0,
         ap (λ (d : List (Option Byte)). get_or d (t + n) none)
-            (chain-delays (full limits) (omega arith) v (links (full limits) c)).delivers
+            (chain_delays (full limits) (omega arith) v (links (full limits) c)).delivers
             ∙ get_or-take (length (accepted steps)) (comes (stands_for x store) (accepted steps)) (t + n) none l
             ∙ there.1,
       )
@@ -119,7 +119,7 @@ module _ (limits : Limits) where
       let there = behind_none (lookahead s) (t + n) q (gives (λ p. []) slots)
       (subst (λ (i : Ideal). ByteOf q (comes i slots) (t + n)) (stands_fresh limits s store)
       (foretold (full limits) (omega arith) (keeps-fresh (full limits) s a) (links (full limits) c) t q n r)) in
-      (there.0, given-was-asked (λ p. []) slots (t + n - lookahead s) q there.1)
+      (there.0, given-was_asked (λ p. []) slots (t + n - lookahead s) q there.1)
 
 pub leaves_then : (limits : Limits) → LeavesThen limits
 leaves_then limits = record { delivers_then = delivers_then limits; asked-then = asked-then limits }

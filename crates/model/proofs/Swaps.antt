@@ -16,15 +16,15 @@ use Rattle.model.specs.Slot.{Call, without, oldest_of, oldest_cell, held_cell, y
 use Rattle.model.specs.Slot.{wrote, queue_to_read}
 use Rattle.model.specs.Slot.{arrival_unknown, request_unknown, leaves_uncovered, head_full, tail_found, refusal}
 use Rattle.model.specs.Swap.{Swapped, SwapSays}
-use Rattle.model.proofs.basics.Tests.{by-test, some_inj}
+use Rattle.model.proofs.basics.Tests.{by_test, some_inj}
 use Rattle.model.proofs.basics.Bytes.{count_past}
-use Rattle.model.proofs.meaning.Steps.{tail-looked-at}
+use Rattle.model.proofs.meaning.Steps.{tail_looked_at}
 use Rattle.model.proofs.one_slot.Rules.{Keeps, keeps-facts}
-use Rattle.model.proofs.one_slot.Swap.{Swap, swap-facts, swap-taken, swap-finds-a-byte, found-asked}
-use Rattle.model.proofs.one_slot.Swap.{swap-finds-a-place, swap-takes-an-old-byte, swap-looked-at}
-use Rattle.model.proofs.one_slot.Swap.{swap-keeps-the-mark, request_first, five_as_before, nine_as_before}
-use Rattle.model.proofs.one_slot.Swap.{asked_as_before}
-use Rattle.model.proofs.one_slot.Halves.{swap-left}
+use Rattle.model.proofs.one_slot.Swap.{Swap, swap_facts, swap_taken, swap_finds_a_byte, found-asked}
+use Rattle.model.proofs.one_slot.Swap.{swap_finds_a_place, swap_takes_an_old_byte, swap_looked_at}
+use Rattle.model.proofs.one_slot.Swap.{swap_keeps_the_mark, request-first, five_as_before, nine_as_before}
+use Rattle.model.proofs.one_slot.Swap.{asked-as_before}
+use Rattle.model.proofs.one_slot.Halves.{swap_left}
 use Rattle.model.proofs.one_slot.Accepted.{Judged, accepted-facts}
 
 first_there : (vs : List ℕ) → 1 ≤ length vs → get_elem? vs 0 ≡ some (get_or vs 0 0)
@@ -34,7 +34,7 @@ first_there (v ∷ vs) l = refl
 module _ (design : Design) (x : State) (store : List ℕ) (call : Call)
     (t : swaps x call.arrival call.request ≡ true) where
   abbrev s : Swap x call
-  s = swap-facts x call t
+  s = swap_facts x call t
 
   abbrev q : ℕ
   q = s.comes.queue
@@ -42,7 +42,7 @@ module _ (design : Design) (x : State) (store : List ℕ) (call : Call)
   -- The queue is one of the Q.
   known : Keeps design x → q < x.sizes.Q
   known v =
-      by-test (leb x.sizes.Q q)
+      by_test (leb x.sizes.Q q)
       (λ above. absurd (omega (
         arith,
         s.byte-there,
@@ -59,11 +59,11 @@ module _ (design : Design) (x : State) (store : List ℕ) (call : Call)
         kept,
         le-ltb (length store) (store_bytes x.sizes) long,
         ap (arrival_unknown x) s.arrival_is ∙ lt-leb x.sizes.Q q (known v),
-        swap-taken x call t,
+        swap_taken x call t,
         ap (request_unknown x) s.request-is ∙ lt-leb x.sizes.Q q (known v),
-        swap-finds-a-byte x call t,
+        swap_finds_a_byte x call t,
         covered,
-        swap-finds-a-place x call t v.tail_fits,
+        swap_finds_a_place x call t v.tail_fits,
         room,
       )
     where
@@ -77,13 +77,13 @@ module _ (design : Design) (x : State) (store : List ℕ) (call : Call)
     cells_are =
         ap (λ (c : Cell). drop 1 x.cells ++ c ∷ []) (old_byte.0 ∙ ap (held_cell y.queue) there);
     tail_is = old_byte.1;
-    fill_is = swap-looked-at x call t covered;
-    mark_is = swap-keeps-the-mark x call t covered judged.kept.tail_mark.0;
+    fill_is = swap_looked_at x call t covered;
+    mark_is = swap_keeps_the_mark x call t covered judged.kept.tail_mark.0;
   }
     where
       judged : Judged design x store call
       judged =
-          subst (Judged design x store) (swap-left x call t) (accepted-facts design x store call none-refuses).judged
+          subst (Judged design x store) (swap_left x call t) (accepted-facts design x store call none-refuses).judged
 
       covered : leaves_uncovered (oldest_cell x.cells) x ≡ false
       covered = judged.covered
@@ -91,7 +91,7 @@ module _ (design : Design) (x : State) (store : List ℕ) (call : Call)
       old_byte :
           (youngest_cell (joined x call) call.request ≡ held_cell y.queue (oldest_of y.queue x.tail))
           × ((asked x call).tail ≡ without 1 y.queue x.tail ++ y ∷ [])
-      old_byte = swap-takes-an-old-byte x call t covered y e
+      old_byte = swap_takes_an_old_byte x call t covered y e
 
       there : oldest_of y.queue x.tail ≡ some (get_or (values_of y.queue x.tail) 0 0)
       there =
@@ -108,12 +108,12 @@ module _ (design : Design) (x : State) (store : List ℕ) (call : Call)
 pub swap_says : (design : Design) → SwapSays design
 swap_says design = record {
   is_accepted = λ x store call t kept long covered room.
-      (is_accepted design x store call t kept long covered room, swap-left x call t);
-  request_first = λ x call t kept. request_first x call t (keeps-facts design x kept).tail_mark.0;
+      (is_accepted design x store call t kept long covered room, swap_left x call t);
+  request-first = λ x call t kept. request-first x call t (keeps-facts design x kept).tail_mark.0;
   takes_an_old_byte = λ x store call t. swapped design x store call t;
   nine_after = λ x call t. nine_after design x [] call t;
   five_as_before = five_as_before;
   nine_as_before = nine_as_before;
-  asked_as_before = asked_as_before;
-  fill_as_before = tail-looked-at;
+  asked-as_before = asked-as_before;
+  fill_as_before = tail_looked_at;
 }

@@ -8,7 +8,7 @@ use Rattle.model.specs.State.{Byte, State, count_of, tail_bytes, head_bytes, owe
 use Rattle.model.specs.Slot.{Call, arriving, is_full, Answer, slot}
 
 -- The bytes of a queue not yet asked for: those in head and slow store that no cell is owed, and those in the tail. The
--- slot's own delivery does not change it (`delivery_leaves_it`, Fairness): an Owed cell that leaves takes a head byte
+-- slot's own delivery does not change it (`delivery-leaves_it`, Fairness): an Owed cell that leaves takes a head byte
 -- with it.
 abbrev pub unrequested : State → ℕ → ℕ
 unrequested x q = head_bytes x q + x.sizes.b * blocks x q - owed_cells x q + tail_bytes x q

@@ -23,7 +23,7 @@ pub record NextAsked (x : State) (arrival : Option Byte) (q : ℕ) : Type 0 wher
 
 -- What an arbiter's slot does, in any design.
 pub record ArbiterSays (design : Design) : Type 0 where
-  pub asks_the_next :
+  pub asks-the_next :
       (x : State) (arrival : Option Byte) (q : ℕ) → keeps design x ≡ true
       → choice x arrival ≡ some q → NextAsked x arrival q
   -- "If none has, the slot has no request": and only then.
@@ -34,18 +34,18 @@ pub record ArbiterSays (design : Design) : Type 0 where
       (x : State) (arrival : Option Byte) (q : ℕ)
       → choice x arrival ≡ none → q < x.sizes.Q → can_be_asked x arrival q ≡ false
   -- The unrequested bytes are those that wait in the ideal buffer.
-  pub unrequested_is_waiting :
+  pub unrequested-is_waiting :
       (x : State) (store : List ℕ) (q : ℕ) → keeps design x ≡ true → store_bytes x.sizes ≤ length store
       → q < x.sizes.Q
       → unrequested x q ≡ length ((stands_for x store).waiting q)
   -- "After the arrival of the slot", and so after the delivery too, which changes nothing of it.
-  pub delivery_leaves_it :
+  pub delivery-leaves_it :
       (x : State) (q : ℕ) → leaves_uncovered (oldest_cell x.cells) x ≡ false
       → unrequested (after_delivery x) q ≡ unrequested x q
   -- "An arrival to a full queue does not count in the choice"; to any other it does.
   pub full-not_counted :
       (x : State) (y : Byte) → is_full x y.queue ≡ true → choice x (some y) ≡ choice x none
-  pub arrival_counted :
+  pub arrival-counted :
       (x : State) (y : Byte) → is_full x y.queue ≡ false → can_be_asked x (some y) y.queue ≡ true
   -- A queue that is chosen can be asked: 7 never comes, and neither does 6.
   pub never_7 :
@@ -55,14 +55,14 @@ pub record ArbiterSays (design : Design) : Type 0 where
       (x : State) (store : List ℕ) (arrival : Option Byte) → (arbiter_slot design x store arrival).reply.number ≡ 6 → ⊥
   -- "The last one asked": it moves where the arbiter asked and the slot is accepted. "A refused slot or a caller's own
   -- request leaves it unchanged", and so does a slot without a request.
-  pub asked_is_noted :
+  pub asked-is_noted :
       (x : State) (store : List ℕ) (arrival : Option Byte) (q : ℕ)
       → (arbiter_slot design x store arrival).reply.number ≡ 0 → choice x arrival ≡ some q
       → (arbiter_slot design x store arrival).state.last_asked ≡ q
   pub none_leaves_it :
       (x : State) (store : List ℕ) (arrival : Option Byte) → choice x arrival ≡ none
       → (arbiter_slot design x store arrival).state.last_asked ≡ x.last_asked
-  pub refused_leaves_it :
+  pub refused-leaves_it :
       (x : State) (store : List ℕ) (arrival : Option Byte) → ((arbiter_slot design x store arrival).reply.number ≡ 0 → ⊥)
       → (arbiter_slot design x store arrival).state ≡ x
   pub own_leaves_it :

@@ -29,7 +29,7 @@ pub record SwapSays (design : Design) : Type 0 where
       → head_full (wrote x call) (queue_to_read (wrote x call)) ≡ false
       → (refusal design x store call ≡ 0) × (halves_taken x call ≡ call)
   -- "Take the request before the arrival": steps 2 and 3 the other way round, and what comes of it.
-  pub request_first :
+  pub request-first :
       (x : State) (call : Call) → swaps x call.arrival call.request ≡ true
       → keeps design x ≡ true
       → asked x call ≡ after_arrival call.arrival (after_request call.request (after_delivery x))
@@ -51,7 +51,7 @@ pub record SwapSays (design : Design) : Type 0 where
   pub nine_as_before :
       (x : State) (call : Call) → swaps x call.arrival call.request ≡ false
       → tail_found x call.arrival call.request ≡ x.tail
-  pub asked_as_before :
+  pub asked-as_before :
       (x : State) (call : Call) → swaps x call.arrival call.request ≡ false
       → asked x call ≡ after_request call.request (after_arrival call.arrival (after_delivery x))
   pub fill_as_before :

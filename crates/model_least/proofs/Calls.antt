@@ -11,7 +11,7 @@ use Rattle.model.specs.Sizes.{Sizes, Limits}
 use Rattle.model.specs.State.{byte, State, tail_bytes, head_bytes, owed_cells, blocks}
 use Rattle.model.specs.Slot.{Call, is_owed, asked}
 use Rattle.model.specs.Calls.{arrival, request, idle}
-use Rattle.model.proofs.basics.Limits.{within-limits}
+use Rattle.model.proofs.basics.Limits.{within_limits}
 use Rattle.model.proofs.one_slot.Swap.{five_as_before}
 use Rattle.model_least.proofs.Slots.{Ready, state_after, store_after, Allowed, not-8}
 use Rattle.model_least.proofs.Figures.{Figures, figures, Stands, stands_arrived, stands_asked, stands_idle}
@@ -42,7 +42,7 @@ idle-allowed x = record { not-4 = refl; not_5 = refl; not-6 = refl; not_7 = refl
 module _ (limits : Limits) (s : Sizes) (x : State) (store : List ℕ) (ready : Ready limits s x store) (q : ℕ)
     (below : q < s.Q) where
   pub arrival-allowed : blocks x q ≡ 0 → tail_bytes x q < s.K * s.b → Allowed x (arrival q 0)
-  arrival-allowed none-stored l = record {
+  arrival-allowed none_stored l = record {
     not-4 = lt-leb x.sizes.Q q (omega (arith, below, queues_are limits s x store ready));
     not_5 = five_as_before x (arrival q 0) refl (byte q 0) refl
         ∙ ne_eqb (tail_bytes x q + x.sizes.b * blocks x q) (x.sizes.K * x.sizes.b)
@@ -50,7 +50,7 @@ module _ (limits : Limits) (s : Sizes) (x : State) (store : List ℕ) (ready : R
           arith,
           e,
           l,
-          ap (λ (n : ℕ). x.sizes.b * n) none-stored,
+          ap (λ (n : ℕ). x.sizes.b * n) none_stored,
           ap (λ (z : Sizes). z.K * z.b) ready.sizes-are,
         ));
     not-6 = refl;
@@ -155,7 +155,7 @@ module _ (limits : Limits) (s : Sizes) (q j : ℕ) (there : ℕ → Figures) (x 
         some_block : 1 ≤ s.K
         some_block =
             subst (λ (z : Sizes). 1 ≤ z.K) v.ready.sizes-are
-            (within-limits limits x.sizes v.ready.good.kept.sizes-ok).k-low
+            (within_limits limits x.sizes v.ready.good.kept.sizes-ok).k_low
 
     arrived : Stands q (figures (suc j) 0 m 0) there (asked x (arrival q 0))
     arrived = stands_arrived x (not-8 limits s x store v.ready) q there j 0 m 0 v.stands

@@ -13,11 +13,11 @@ use Rattle.model.specs.Slot.{oldest_cell, after_delivery, after_arrival, is_owed
 use Rattle.model.specs.Slot.{joined, asked, leaves_uncovered}
 use Rattle.model.specs.Calls.{arrival, request, idle}
 use Rattle.model.proofs.basics.Tests.{eqb_same}
-use Rattle.model.proofs.basics.Bytes.{count-append, count-one-same, count-one-other}
-use Rattle.model.proofs.basics.Cells.{owed-append}
-use Rattle.model.proofs.meaning.Steps.{owed-leaves-tail}
-use Rattle.model.proofs.missing.Draining.{covered-byte}
-use Rattle.model.proofs.one_slot.StepsKeepRules.{owed-oldest, count-head-without, youngest-owed}
+use Rattle.model.proofs.basics.Bytes.{count_append, count_one_same, count_one_other}
+use Rattle.model.proofs.basics.Cells.{owed_append}
+use Rattle.model.proofs.meaning.Steps.{owed_leaves_tail}
+use Rattle.model.proofs.missing.Draining.{covered_byte}
+use Rattle.model.proofs.one_slot.StepsKeepRules.{owed_oldest, count_head_without, youngest_owed}
 
 -- Of a queue: its tail bytes, its blocks, its margin when the round began, and the bytes asked for since.
 pub record Figures : Type 0 where
@@ -49,9 +49,9 @@ module _ (x : State) (covered : leaves_uncovered (oldest_cell x.cells) x ≡ fal
     margin_is = omega (
       arith,
       v.margin_is,
-      owed-oldest x.cells q,
-      count-head-without (oldest_cell x.cells) x.head q,
-      covered-byte x (oldest_cell x.cells) q covered,
+      owed_oldest x.cells q,
+      count_head_without (oldest_cell x.cells) x.head q,
+      covered_byte x (oldest_cell x.cells) q covered,
     );
   }
 
@@ -62,15 +62,15 @@ module _ (x : State) (covered : leaves_uncovered (oldest_cell x.cells) x ≡ fal
       (omega (
         arith,
         ltb-true (owed_cells x q) (head_bytes x q + x.sizes.b * blocks x q) e,
-        owed-oldest x.cells q,
-        count-head-without (oldest_cell x.cells) x.head q,
-        covered-byte x (oldest_cell x.cells) q covered,
+        owed_oldest x.cells q,
+        count_head_without (oldest_cell x.cells) x.head q,
+        covered_byte x (oldest_cell x.cells) q covered,
       ))
 
 -- 2. The arriving byte joins the tail, or none does.
 shows_no_arrival : (x : State) (f : Figures) (q : ℕ) → Shows f x q → Shows f (after_arrival none x) q
 shows_no_arrival x f q v = record {
-  tail_is = omega (arith, v.tail_is, count-append q x.tail []);
+  tail_is = omega (arith, v.tail_is, count_append q x.tail []);
   blocks-are = v.blocks-are;
   margin_is = v.margin_is;
 }
@@ -78,7 +78,7 @@ shows_no_arrival x f q v = record {
 shows_arrival_here : (x : State) (t n m a q : ℕ) → Shows (figures t n m a) x q
     → Shows (figures (suc t) n m a) (after_arrival (some (byte q 0)) x) q
 shows_arrival_here x t n m a q v = record {
-  tail_is = omega (arith, v.tail_is, count-append q x.tail (byte q 0 ∷ []), count-one-same (byte q 0));
+  tail_is = omega (arith, v.tail_is, count_append q x.tail (byte q 0 ∷ []), count_one_same (byte q 0));
   blocks-are = v.blocks-are;
   margin_is = v.margin_is;
 }
@@ -86,7 +86,7 @@ shows_arrival_here x t n m a q v = record {
 shows_arrival_there : (x : State) (q p : ℕ) (f : Figures) → eqb q p ≡ false → Shows f x p
     → Shows f (after_arrival (some (byte q 0)) x) p
 shows_arrival_there x q p f u v = record {
-  tail_is = omega (arith, v.tail_is, count-append p x.tail (byte q 0 ∷ []), count-one-other (byte q 0) p u);
+  tail_is = omega (arith, v.tail_is, count_append p x.tail (byte q 0 ∷ []), count_one_other (byte q 0) p u);
   blocks-are = v.blocks-are;
   margin_is = v.margin_is;
 }
@@ -96,32 +96,32 @@ shows_no_request : (x : State) (f : Figures) (q : ℕ) → Shows f x q → Shows
 shows_no_request x f q v = record {
   tail_is = v.tail_is;
   blocks-are = v.blocks-are;
-  margin_is = omega (arith, v.margin_is, owed-append q x.cells (empty ∷ []));
+  margin_is = omega (arith, v.margin_is, owed_append q x.cells (empty ∷ []));
 }
 
 module _ (x : State) (q : ℕ) (o : is_owed x q ≡ true) where
   shows_request_here : (t n m a : ℕ) → Shows (figures t n m a) x q
       → Shows (figures t n m (suc a)) (after_request (some q) x) q
   shows_request_here t n m a v = record {
-    tail_is = rw (owed-leaves-tail x q o) v.tail_is;
+    tail_is = rw (owed_leaves_tail x q o) v.tail_is;
     blocks-are = v.blocks-are;
     margin_is = omega (
       arith,
       v.margin_is,
-      owed-append q x.cells (youngest_cell x (some q) ∷ []),
-      rw (eqb_same q) at (youngest-owed x q q o),
+      owed_append q x.cells (youngest_cell x (some q) ∷ []),
+      rw (eqb_same q) at (youngest_owed x q q o),
     );
   }
 
   shows_request_there : (p : ℕ) (f : Figures) → eqb q p ≡ false → Shows f x p → Shows f (after_request (some q) x) p
   shows_request_there p f u v = record {
-    tail_is = rw (owed-leaves-tail x q o) v.tail_is;
+    tail_is = rw (owed_leaves_tail x q o) v.tail_is;
     blocks-are = v.blocks-are;
     margin_is = omega (
       arith,
       v.margin_is,
-      owed-append p x.cells (youngest_cell x (some q) ∷ []),
-      rw u at (youngest-owed x q p o),
+      owed_append p x.cells (youngest_cell x (some q) ∷ []),
+      rw u at (youngest_owed x q p o),
     );
   }
 

@@ -16,12 +16,12 @@ use Rattle.model.specs.Slot.{Call}
 use Rattle.model.specs.Calls.{request, idles}
 use Rattle.model.specs.Lists.{run}
 use Rattle.model.specs.Demand.{block_of_arrivals}
-use Rattle.model.proofs.basics.Tests.{by-test}
+use Rattle.model.proofs.basics.Tests.{by_test}
 use Rattle.model.proofs.basics.Sums.{sum}
 use Rattle.model.proofs.basics.Bytes.{sum-counts}
 use Rattle.model.proofs.basics.Cells.{sum_owed}
-use Rattle.model.proofs.basics.Rings.{times-pred}
-use Rattle.model.proofs.basics.Limits.{within-limits}
+use Rattle.model.proofs.basics.Rings.{times_pred}
+use Rattle.model.proofs.basics.Limits.{within_limits}
 use Rattle.model_least.specs.Least.{prepare_from, ask_from, head_fills, HeadFills}
 use Rattle.model_least.proofs.Slots.{state_after, store_after, whole, no_refusal}
 use Rattle.model_least.proofs.Figures.{Figures, figures}
@@ -39,7 +39,7 @@ Fills limits s x store calls =
 
 fills_later : (limits : Limits) (s : Sizes) → Onward limits s (Fills limits s)
 fills_later limits s x store call ready allowed calls e =
-    by-test (eqb (length x.head) (head_size s))
+    by_test (eqb (length x.head) (head_size s))
     (λ t. rw t)
     (λ t. rw (t, no_refusal limits s x store ready call allowed)
     (subst (λ (c : Call). Fills limits s (state_after x store c) (store_after x store c) calls)
@@ -107,7 +107,7 @@ module _ (limits : Limits) (s : Sizes) (block : 1 ≤ s.b) where
         ap (λ (n : ℕ). sum n (head_bytes x)) (queues_are limits s x store v.ready),
         ap (λ (n : ℕ). sum n (owed_cells x)) (queues_are limits s x store v.ready),
         sum-counts x.sizes.Q x.head v.ready.good.kept.within.head_below,
-        sum_owed x.sizes.Q x.cells v.ready.good.kept.within.cells-below,
+        sum_owed x.sizes.Q x.cells v.ready.good.kept.within.cells_below,
         sum-add s.Q (s.b - 1) (owed_cells x) (head_bytes x)
             (λ p l. omega (arith, (all_done limits s (spent s) (prepared s) x store v p l).margin_is)),
       )
@@ -146,9 +146,9 @@ head_fills_lem limits s store e long =
       arith,
       v.ready.good.kept.within.cells_long,
       ap span v.ready.sizes-are,
-      times-pred s.Q s.b block,
-      (within-limits limits s e).q_low,
+      times_pred s.Q s.b block,
+      (within_limits limits s e).q_low,
     )))))
   where
     block : 1 ≤ s.b
-    block = (within-limits limits s e).b-low
+    block = (within_limits limits s e).b_low

@@ -13,15 +13,15 @@ use Rattle.model.specs.Sizes.{store_bytes}
 use Rattle.model.specs.State.{Ring, ring, State, tail_bytes, head_bytes, owed_cells, ring_of, blocks}
 use Rattle.model.specs.Slot.{moves, fullest, queue_to_write, after_write, refill_queue, queue_to_read, block_at, after_read}
 use Rattle.model.specs.Slot.{after_phase, asked}
-use Rattle.model.proofs.basics.Tests.{by-test, by-option, eqb_same}
-use Rattle.model.proofs.basics.Bytes.{count-without, count-refilled}
+use Rattle.model.proofs.basics.Tests.{by_test, by_option, eqb_same}
+use Rattle.model.proofs.basics.Bytes.{count_without, count_refilled}
 use Rattle.model.proofs.meaning.Fullest.{fullest-some, fullest-none}
-use Rattle.model.proofs.meaning.Scan.{scan-some, scan-none}
-use Rattle.model.proofs.meaning.Steps.{move-writes-fullest, move-reads-scan}
-use Rattle.model.proofs.basics.Rings.{ring-set-same, ring-set-other, block-length}
+use Rattle.model.proofs.meaning.Scan.{scan_some, scan_none}
+use Rattle.model.proofs.meaning.Steps.{move_writes_fullest, move_reads_scan}
+use Rattle.model.proofs.basics.Rings.{ring-set_same, ring-set_other, block_length}
 use Rattle.model.proofs.one_slot.Rules.{Rules}
-use Rattle.model.proofs.one_slot.MovesKeepRules.{scan-taken}
-use Rattle.model.proofs.one_slot.Kept.{write-taken, read-scan}
+use Rattle.model.proofs.one_slot.MovesKeepRules.{scan_taken}
+use Rattle.model.proofs.one_slot.Kept.{write_taken, read_scan}
 use Rattle.model_least.proofs.Figures.{Figures, figures, Shows, Stands}
 
 -- The other queues of a round: none has a block in the tail, and none is asked for.
@@ -34,22 +34,22 @@ module _ (q : ℕ) (here : Figures) (there : ℕ → Figures) (y : State) (v : S
   -- The write.
   pub none_written : here.tail < y.sizes.b → queue_to_write y ≡ none
   none_written l =
-      by-option (queue_to_write y) (λ e. e)
-      (λ p e. absurd (by-test (eqb q p)
-      (λ t. omega (arith, l, (write-taken y p e).1, v.at_here.tail_is, ap (tail_bytes y) (eqb-true q p t)))
-      (λ t. omega (arith, c.light p, (write-taken y p e).1, (v.at_there p (write-taken y p e).0 t).tail_is))))
+      by_option (queue_to_write y) (λ e. e)
+      (λ p e. absurd (by_test (eqb q p)
+      (λ t. omega (arith, l, (write_taken y p e).1, v.at_here.tail_is, ap (tail_bytes y) (eqb-true q p t)))
+      (λ t. omega (arith, c.light p, (write_taken y p e).1, (v.at_there p (write_taken y p e).0 t).tail_is))))
 
   pub one_written : moves y ≡ true → q < y.sizes.Q → y.sizes.b ≤ here.tail → queue_to_write y ≡ some q
   one_written move below l =
-      move-writes-fullest y move
-      ∙ by-option (fullest y.sizes.b (tail_bytes y) y.sizes.Q)
+      move_writes_fullest y move
+      ∙ by_option (fullest y.sizes.b (tail_bytes y) y.sizes.Q)
       (λ e. absurd (omega (
         arith,
         l,
         v.at_here.tail_is,
         fullest-none y.sizes.b (tail_bytes y) y.sizes.Q e q below,
       )))
-      (λ p e. by-test (eqb q p)
+      (λ p e. by_test (eqb q p)
       (λ t. e ∙ ap (λ (i : ℕ). some i) (sym (eqb-true q p t)))
       (λ t. absurd (omega (
         arith,
@@ -62,32 +62,32 @@ module _ (q : ℕ) (here : Figures) (there : ℕ → Figures) (y : State) (v : S
   module _ (n : ℕ) (rules : Rules n y) where
     only_here : (p : ℕ) → refill_queue (head_bytes y) y.cells ≡ some p → p ≡ q
     only_here p e =
-        by-test (eqb q p)
+        by_test (eqb q p)
         (λ t. sym (eqb-true q p t))
         (λ t. absurd (omega (
           arith,
-          scan-some (head_bytes y) y.cells p e,
-          (v.at_there p (scan-taken n y rules p e).0 t).margin_is,
+          scan_some (head_bytes y) y.cells p e,
+          (v.at_there p (scan_taken n y rules p e).0 t).margin_is,
           c.not_asked p,
         )))
 
     pub none_read : here.asked ≤ here.margin → queue_to_read y ≡ none
     none_read l =
-        by-option (queue_to_read y) (λ e. e)
+        by_option (queue_to_read y) (λ e. e)
         (λ p e. absurd (omega (
           arith,
           l,
-          scan-some (head_bytes y) y.cells p (read-scan y p e),
+          scan_some (head_bytes y) y.cells p (read_scan y p e),
           v.at_here.margin_is,
-          ap (head_bytes y) (only_here p (read-scan y p e)),
-          ap (owed_cells y) (only_here p (read-scan y p e)),
+          ap (head_bytes y) (only_here p (read_scan y p e)),
+          ap (owed_cells y) (only_here p (read_scan y p e)),
         )))
 
     pub one_read : moves y ≡ true → here.margin < here.asked → queue_to_read y ≡ some q
     one_read move l =
-        move-reads-scan y move
-        ∙ by-option (refill_queue (head_bytes y) y.cells)
-        (λ e. absurd (omega (arith, l, scan-none (head_bytes y) y.cells e q, v.at_here.margin_is)))
+        move_reads_scan y move
+        ∙ by_option (refill_queue (head_bytes y) y.cells)
+        (λ e. absurd (omega (arith, l, scan_none (head_bytes y) y.cells e q, v.at_here.margin_is)))
         (λ p e. e ∙ ap (λ (i : ℕ). some i) (only_here p e))
 
 -- The block goes from the tail to the ring, and from the ring to the head.
@@ -96,14 +96,14 @@ pub stands_wrote : (n q t k m a : ℕ) (there : ℕ → Figures) (y : State) →
     → Stands q (figures t (suc k) m a) there (after_write (some q) y)
 stands_wrote n q t k m a there y rules below v = record {
   at_here = record {
-    tail_is = omega (arith, v.at_here.tail_is, rw (eqb_same q) at (count-without y.sizes.b q q y.tail));
-    blocks-are = rw (ring-set-same y.rings q new (omega (arith, rules.rings-long, below)), blocks)
+    tail_is = omega (arith, v.at_here.tail_is, rw (eqb_same q) at (count_without y.sizes.b q q y.tail));
+    blocks-are = rw (ring-set_same y.rings q new (omega (arith, rules.rings_long, below)), blocks)
         (omega (arith, v.at_here.blocks-are));
     margin_is = v.at_here.margin_is;
   };
   at_there = λ p l u. record {
-    tail_is = omega (arith, (v.at_there p l u).tail_is, rw u at (count-without y.sizes.b q p y.tail));
-    blocks-are = rw (ring-set-other y.rings q p new u, blocks) (v.at_there p l u).blocks-are;
+    tail_is = omega (arith, (v.at_there p l u).tail_is, rw u at (count_without y.sizes.b q p y.tail));
+    blocks-are = rw (ring-set_other y.rings q p new u, blocks) (v.at_there p l u).blocks-are;
     margin_is = (v.at_there p l u).margin_is;
   };
 }
@@ -118,20 +118,20 @@ pub stands_read : (n q t k m : ℕ) (there : ℕ → Figures) (z : State) (store
 stands_read n q t k m there z store rules below pos long v = record {
   at_here = record {
     tail_is = v.at_here.tail_is;
-    blocks-are = rw (ring-set-same z.rings q _ (omega (arith, rules.rings-long, below)), blocks)
+    blocks-are = rw (ring-set_same z.rings q _ (omega (arith, rules.rings_long, below)), blocks)
         (omega (arith, v.at_here.blocks-are));
     margin_is = omega (
       arith,
       pos,
       v.at_here.margin_is,
       whole,
-      rw (eqb_same q) at (count-refilled q q z.head block),
+      rw (eqb_same q) at (count_refilled q q z.head block),
     );
   };
   at_there = λ p l u. record {
     tail_is = (v.at_there p l u).tail_is;
-    blocks-are = rw (ring-set-other z.rings q p _ u, blocks) (v.at_there p l u).blocks-are;
-    margin_is = omega (arith, (v.at_there p l u).margin_is, rw u at (count-refilled q p z.head block));
+    blocks-are = rw (ring-set_other z.rings q p _ u, blocks) (v.at_there p l u).blocks-are;
+    margin_is = omega (arith, (v.at_there p l u).margin_is, rw u at (count_refilled q p z.head block));
   };
 }
   where
@@ -139,7 +139,7 @@ stands_read n q t k m there z store rules below pos long v = record {
     block = block_at z.sizes store q (ring_of z.rings q).first
 
     whole : length block ≡ z.sizes.b
-    whole = block-length z.sizes store q (ring_of z.rings q).first below (rules.firsts q below) long
+    whole = block_length z.sizes store q (ring_of z.rings q).first below (rules.firsts q below) long
 
 -- A read of nothing, and the phase, change no figure.
 pub stands_unread : (q : ℕ) (here : Figures) (there : ℕ → Figures) (z : State) (store : List ℕ) → Stands q here there z

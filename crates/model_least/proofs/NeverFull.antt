@@ -13,13 +13,13 @@ use Rattle.model.specs.Sizes.{Sizes, Limits, accepts, tail_size, full}
 use Rattle.model.specs.State.{State, fresh, tail_bytes}
 use Rattle.model.specs.Slot.{Call, swaps, joined, asked, Answer, halves_taken, slot}
 use Rattle.model.specs.Lists.{joined_fill_of, run, list_of}
-use Rattle.model.proofs.basics.Tests.{by-test}
+use Rattle.model.proofs.basics.Tests.{by_test}
 use Rattle.model.proofs.basics.Sums.{sum_bound}
 use Rattle.model.proofs.basics.Bytes.{sum-counts}
-use Rattle.model.proofs.basics.Rings.{times-pred}
+use Rattle.model.proofs.basics.Rings.{times_pred}
 use Rattle.model.proofs.one_slot.Rules.{Rules, Keeps, keeps-fresh}
-use Rattle.model.proofs.one_slot.Swap.{swap-looked-at}
-use Rattle.model.proofs.one_slot.Accepted.{RefusedOrAccepted, was-refused, was_accepted, outcome}
+use Rattle.model.proofs.one_slot.Swap.{swap_looked_at}
+use Rattle.model.proofs.one_slot.Accepted.{RefusedOrAccepted, was_refused, was_accepted, outcome}
 use Rattle.model.proofs.one_slot.Kept.{rules-2, slot_kept}
 use Rattle.model_least.specs.Least.{tail_fills}
 
@@ -43,10 +43,10 @@ module _ (limits : Limits) (x : State) (store : List ℕ) (call : Call) (kept : 
   joined-bounded = go (slot (full limits) x store call) (outcome (full limits) x store call)
     where
       go : (a : Answer) → RefusedOrAccepted (full limits) x store call a → joined_fill_of a.reply.number x left ≤ most
-      go a (was-refused n e) = tail_bounded _ x kept.within
+      go a (was_refused n e) = tail_bounded _ x kept.within
       go a (was_accepted f) =
-          by-test (swaps x left.arrival left.request)
-          (λ t. omega (arith, swap-looked-at x left t f.judged.covered, tail_bounded _ x kept.within))
+          by_test (swaps x left.arrival left.request)
+          (λ t. omega (arith, swap_looked_at x left t f.judged.covered, tail_bounded _ x kept.within))
           (λ t. subst (λ (b : Bool). length (choose b (asked x left).tail (joined x left).tail) ≤ most) (sym t)
           (tail_bounded _ _ (rules-2 (full limits) x store left (omega arith) f.judged)))
 
@@ -61,7 +61,7 @@ module _ (limits : Limits) (s : Sizes) (one : s.K ≡ 1) (few : s.Q < s.b) where
         few,
         ap (λ (k : ℕ). s.Q * (k * s.b)) one,
         ap (λ (k : ℕ). s.Q * k) (let e : 1 * s.b ≡ s.b = omega arith in e),
-        times-pred s.Q s.b (omega (arith, few)),
+        times_pred s.Q s.b (omega (arith, few)),
       )
 
   never : (x : State) (store : List ℕ) (calls : List Call) → Keeps (full limits) x → x.sizes ≡ s
@@ -78,7 +78,7 @@ module _ (limits : Limits) (s : Sizes) (one : s.K ≡ 1) (few : s.Q < s.b) where
         joined-bounded limits x store call kept,
       )))
       (never _ _ calls (slot_kept (full limits) x store call (omega arith) kept).kept
-      ((slot_kept (full limits) x store call (omega arith) kept).same_sizes ∙ same))
+      ((slot_kept (full limits) x store call (omega arith) kept).same-sizes ∙ same))
 
 pub tail_never_fills : (limits : Limits) (s : Sizes) (store : List ℕ) (calls : List Call) → accepts limits s ≡ true
     → s.K ≡ 1 → s.Q < s.b → some_of (tail_fills s) (list_of (full limits) s store calls) ≡ false

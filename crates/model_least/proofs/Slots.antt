@@ -16,13 +16,13 @@ use Rattle.model.specs.Slot.{Call, oldest_cell, wrote, queue_to_read, arrival_un
 use Rattle.model.specs.Slot.{nothing_to_take, leaves_uncovered, head_full, request_drops, halves_taken, refusal, carried_out}
 use Rattle.model.specs.Slot.{accept}
 use Rattle.model.specs.Lists.{Step, joined_fill_of, read_fill_of, step_of, run}
-use Rattle.model.proofs.basics.FirstRefusal.{last-refusal}
+use Rattle.model.proofs.basics.FirstRefusal.{last_refusal}
 use Rattle.model.proofs.one_slot.Rules.{keeps-holds}
 use Rattle.model.proofs.one_slot.Halves.{all_left, arrival-stays}
-use Rattle.model.proofs.one_slot.Accepted.{Judged, earlyRefusals, judged-facts}
-use Rattle.model.proofs.one_slot.Kept.{still-long}
-use Rattle.model.proofs.no_miss.Invariant.{oldest-covered}
-use Rattle.model.proofs.no_miss.Good.{Good, good-fresh, no_9, no-10, carried-good}
+use Rattle.model.proofs.one_slot.Accepted.{Judged, early_refusals, judged_facts}
+use Rattle.model.proofs.one_slot.Kept.{still_long}
+use Rattle.model.proofs.no_miss.Invariant.{oldest_covered}
+use Rattle.model.proofs.no_miss.Good.{Good, good_fresh, no_9, no_10, carried_good}
 
 -- Some slot of the list passes the test.
 abbrev pub Reaches : Limits → (Step → Bool) → State → List ℕ → List Call → Type 0
@@ -36,7 +36,7 @@ pub record Ready (limits : Limits) (s : Sizes) (x : State) (store : List ℕ) : 
 
 pub ready_fresh : (limits : Limits) (s : Sizes) (store : List ℕ) → accepts limits s ≡ true → store_bytes s ≤ length store
     → Ready limits s (fresh (full limits) s) store
-ready_fresh limits s store e long = record { good = good-fresh limits s e; sizes-are = refl; store_long = long }
+ready_fresh limits s store e long = record { good = good_fresh limits s e; sizes-are = refl; store_long = long }
 
 -- State and store as an accepted slot leaves them of which no half is dropped, and the step that it is.
 abbrev pub state_after : State → List ℕ → Call → State
@@ -68,10 +68,10 @@ pub record Allowed (x : State) (call : Call) : Type 0 where
 
 module _ (limits : Limits) (s : Sizes) (x : State) (store : List ℕ) (ready : Ready limits s x store) where
   pub not-8 : leaves_uncovered (oldest_cell x.cells) x ≡ false
-  not-8 = oldest-covered x.phase x ready.good.kept.phase_ok ready.good.invariant
+  not-8 = oldest_covered x.phase x ready.good.kept.phase_ok ready.good.invariant
 
   module _ (call : Call) (allowed : Allowed x call) where
-    early : first_refusal (earlyRefusals (full limits) x store call) ≡ 0
+    early : first_refusal (early_refusals (full limits) x store call) ≡ 0
     early =
         rw (
           keeps-holds (full limits) x ready.good.kept,
@@ -89,19 +89,19 @@ module _ (limits : Limits) (s : Sizes) (x : State) (store : List ℕ) (ready : R
     whole = all_left x call allowed.not_5 allowed.not_7
 
     pub judged : Judged (full limits) x store call
-    judged = subst (Judged (full limits) x store) whole (judged-facts (full limits) x store call early)
+    judged = subst (Judged (full limits) x store) whole (judged_facts (full limits) x store call early)
 
     pub no_refusal : refusal (full limits) x store call ≡ 0
     no_refusal =
-        last-refusal (earlyRefusals (full limits) x store call) _ early
+        last_refusal (early_refusals (full limits) x store call) _ early
         ∙ ap (λ (c : Call). when (head_full (wrote x c) (queue_to_read (wrote x c))) 10) whole
-        ∙ ap (λ (t : Bool). when t 10) (no-10 limits x store call ready.good judged)
+        ∙ ap (λ (t : Bool). when t 10) (no_10 limits x store call ready.good judged)
 
     pub ready_after : Ready limits s (state_after x store call) (store_after x store call)
     ready_after = record {
-      good = carried-good limits x store call ready.good judged;
+      good = carried_good limits x store call ready.good judged;
       sizes-are = ready.sizes-are;
-      store_long = still-long (full limits) x store call (omega arith) judged;
+      store_long = still_long (full limits) x store call (omega arith) judged;
     }
 
     -- The slot passes the test, or leaves it to the slots after it.

@@ -11,7 +11,7 @@ use borrow.Author.Tests.{eq-eqb, ne_eqb}
 use Rattle.model.specs.Sizes.{Sizes, Limits, lookahead, full}
 use Rattle.model.specs.State.{State}
 use Rattle.model.specs.Slot.{Call, moves, queue_to_write, after_write, store_written, queue_to_read, after_read, asked, wrote}
-use Rattle.model.proofs.meaning.Steps.{no-move-no-write, no_move_no_read}
+use Rattle.model.proofs.meaning.Steps.{no_move_no_write, no_move_no_read}
 use Rattle.model.proofs.one_slot.Rules.{Rules}
 use Rattle.model.proofs.one_slot.Kept.{rules-3, rules-written}
 use Rattle.model_least.proofs.Slots.{Ready, state_after, store_after, Allowed, judged, ready_after}
@@ -59,7 +59,7 @@ module _ (limits : Limits) (s : Sizes) (x : State) (store : List ℕ) (call : Ca
   module _ (here : Figures) (v : Stands q here there y) where
     pub on : (j : ℕ) → x.phase ≡ j → suc j < x.sizes.b → Stage limits s q here there (suc j) next next_store
     on j e l =
-        settled here (suc j) none none (no_move_no_read (wrote x call) no_move) (no-move-no-write y no_move)
+        settled here (suc j) none none (no_move_no_read (wrote x call) no_move) (no_move_no_write y no_move)
         (stands_unread q here there y store v) (rw no_move (omega (arith, e)))
       where
         no_move : moves x ≡ false

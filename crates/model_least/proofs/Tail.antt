@@ -15,10 +15,10 @@ use Rattle.model.specs.State.{Byte, byte, State, fresh, count_of, tail_bytes, bl
 use Rattle.model.specs.Slot.{Call, moves, joined}
 use Rattle.model.specs.Calls.{arrival, idles}
 use Rattle.model.specs.Demand.{block_of_arrivals}
-use Rattle.model.proofs.basics.Tests.{by-test}
+use Rattle.model.proofs.basics.Tests.{by_test}
 use Rattle.model.proofs.basics.Sums.{sum, sum-zero}
-use Rattle.model.proofs.basics.Bytes.{count-append, count-one-same, count-one-other, sum-counts}
-use Rattle.model.proofs.basics.Limits.{Within, within-limits}
+use Rattle.model.proofs.basics.Bytes.{count_append, count_one_same, count_one_other, sum-counts}
+use Rattle.model.proofs.basics.Limits.{Within, within_limits}
 use Rattle.model_least.specs.Least.{short_from, last_queue, last_from, tail_fills, TailFills}
 use Rattle.model_least.proofs.Slots.{Reaches, Ready, state_after, store_after, Allowed, ready_after, reaches_now}
 use Rattle.model_least.proofs.Slots.{reaches_later}
@@ -45,13 +45,13 @@ light_on : (two : Bool) (i k most : ℕ) (tail : List Byte) → i < k
     → count_of (choose two 0 k) tail ≤ most + choose two i 0
     → count_of (choose two 0 k) (tail ++ (byte (choose two 0 i) 0 ∷ [])) ≤ most + choose two (suc i) 0
 light_on true i k most tail l h =
-    omega (arith, h, count-append 0 tail (byte 0 0 ∷ []), count-one-same (byte 0 0))
+    omega (arith, h, count_append 0 tail (byte 0 0 ∷ []), count_one_same (byte 0 0))
 light_on false i k most tail l h =
     omega (
       arith,
       h,
-      count-append k tail (byte i 0 ∷ []),
-      count-one-other (byte i 0) k (ne_eqb i k (λ e. omega (arith, e, l))),
+      count_append k tail (byte i 0 ∷ []),
+      count_one_other (byte i 0) k (ne_eqb i k (λ e. omega (arith, e, l))),
     )
 
 module _ (limits : Limits) (s : Sizes) (block : 1 ≤ s.b) (ring : 1 ≤ s.K)
@@ -59,7 +59,7 @@ module _ (limits : Limits) (s : Sizes) (block : 1 ≤ s.b) (ring : 1 ≤ s.K)
   -- Their queues' rings have room for them.
   room : (i : ℕ) → i < s.b → s.b - 1 + choose (leb 2 s.K) i 0 < s.K * s.b
   room i l =
-      by-test (leb 2 s.K)
+      by_test (leb 2 s.K)
       (λ t. rw t (omega (arith, l, mul-le-mul_right {m = 2} s.b (leb-true 2 s.K t))))
       (λ t. rw t (omega (arith, block, mul-le-mul_right {m = 1} s.b ring)))
 
@@ -162,20 +162,20 @@ module _ (limits : Limits) (s : Sizes) (block : 1 ≤ s.b) (ring : 1 ≤ s.K)
 pub tail_fills_lem : (limits : Limits) (s : Sizes) (store : List ℕ) → accepts limits s ≡ true
     → store_bytes s ≤ length store → 2 ≤ s.K → TailFills limits s store
 tail_fills_lem limits s store e long two =
-    tail_reached limits s sizes-ok.b-low sizes-ok.k-low
+    tail_reached limits s sizes-ok.b_low sizes-ok.k_low
     (λ k l. rw (le-leb 2 s.K two) sizes-ok.q_low) store e long
   where
     sizes-ok : Within limits s
-    sizes-ok = within-limits limits s e
+    sizes-ok = within_limits limits s e
 
 -- With as many queues as a block has bytes, there is a queue for each of them.
 pub tail_fills_by_queues : (limits : Limits) (s : Sizes) (store : List ℕ) → accepts limits s ≡ true
     → store_bytes s ≤ length store → s.b ≤ s.Q → TailFills limits s store
 tail_fills_by_queues limits s store e long many =
-    tail_reached limits s sizes-ok.b-low sizes-ok.k-low
-    (λ k l. by-test (leb 2 s.K)
+    tail_reached limits s sizes-ok.b_low sizes-ok.k_low
+    (λ k l. by_test (leb 2 s.K)
     (λ t. rw t sizes-ok.q_low)
     (λ t. rw t (omega (arith, l, many)))) store e long
   where
     sizes-ok : Within limits s
-    sizes-ok = within-limits limits s e
+    sizes-ok = within_limits limits s e

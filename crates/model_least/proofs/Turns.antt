@@ -11,9 +11,9 @@ use borrow.Author.Tests.{eqb-true, eqb-false, ltb-true, ltb-false, lt-ltb, le-lt
 use Rattle.model.specs.Basics.{choose}
 use Rattle.model.specs.Sizes.{Sizes, Limits, accepts, lookahead, store_bytes, full}
 use Rattle.model.specs.State.{State, fresh, blocks}
-use Rattle.model.proofs.basics.Tests.{by-test}
+use Rattle.model.proofs.basics.Tests.{by_test}
 use Rattle.model.proofs.basics.Sums.{sum}
-use Rattle.model.proofs.basics.Cells.{owed-empties}
+use Rattle.model.proofs.basics.Cells.{owed_empties}
 use Rattle.model.proofs.basics.Rings.{ring-fresh}
 use Rattle.model_least.proofs.Slots.{Ready, ready_fresh}
 use Rattle.model_least.proofs.Figures.{Figures, figures, Shows}
@@ -46,7 +46,7 @@ module _ (limits : Limits) (s : Sizes) (done waiting : Figures) where
       → Turn limits s done waiting (suc q) x store
   turn_ends q x store v = record {
     ready = v.ready;
-    shows = λ p l. by-test (eqb q p)
+    shows = λ p l. by_test (eqb q p)
         (λ t. rw (lt-ltb p (suc q) (omega (arith, eqb-true q p t)))
         (subst (Shows done x) (eqb-true q p t) v.stands.at_here))
         (λ t. subst (λ (f : Figures). Shows f x p) (other p t)
@@ -56,15 +56,15 @@ module _ (limits : Limits) (s : Sizes) (done waiting : Figures) where
     where
       other : (p : ℕ) → eqb q p ≡ false → in_turn done waiting q p ≡ in_turn done waiting (suc q) p
       other p t =
-          by-test (ltb p q)
+          by_test (ltb p q)
           (λ u. rw (u, lt-ltb p (suc q) (omega (arith, ltb-true p q u))))
           (λ u. rw (u, le-ltb p (suc q) (omega (arith, ltb-false p q u, eqb-false q p t))))
 
   pub turn_calm : (q : ℕ) → done.tail < s.b → waiting.tail < s.b → done.asked ≡ 0 → waiting.asked ≡ 0
       → Calm s.b (in_turn done waiting q)
   turn_calm q hd hw ad aw = record {
-    light = λ p. by-test (ltb p q) (λ t. rw t hd) (λ t. rw t hw);
-    not_asked = λ p. by-test (ltb p q) (λ t. rw t ad) (λ t. rw t aw);
+    light = λ p. by_test (ltb p q) (λ t. rw t hd) (λ t. rw t hw);
+    not_asked = λ p. by_test (ltb p q) (λ t. rw t ad) (λ t. rw t aw);
   }
 
   -- All have had it, or none has.
@@ -97,7 +97,7 @@ turns_fresh limits s done store e long =
     (λ p l. record {
       tail_is = refl;
       blocks-are = rw (ring-fresh s.Q p, blocks);
-      margin_is = omega (arith, owed-empties (lookahead s) p);
+      margin_is = omega (arith, owed_empties (lookahead s) p);
     })
 
 -- A sum that is n times d more than another.

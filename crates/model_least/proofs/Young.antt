@@ -10,7 +10,7 @@ use lib.Seq.{drop-nil}
 use Rattle.model.specs.State.{Cell, owed, State}
 use Rattle.model.specs.Slot.{oldest_cell, is_owed, asked, leaves_uncovered}
 use Rattle.model.specs.Calls.{request}
-use Rattle.model.proofs.basics.Cells.{all_owed, all-owed-append, all-owed-length}
+use Rattle.model.proofs.basics.Cells.{all_owed, all_owed_append, all_owed_length}
 use Rattle.model_least.proofs.Figures.{owed_delivered}
 
 -- All cells but the r oldest are Owed.
@@ -22,10 +22,10 @@ past_nothing r = rw (drop-nil {A = Cell} r)
 
 pub past_all : (r : ℕ) (cells : List Cell) → length cells ≤ r → OwedPast r cells
 past_all r cells l =
-    omega (arith, l, all-owed-length (drop r cells), length-drop r cells)
+    omega (arith, l, all_owed_length (drop r cells), length-drop r cells)
 
 past_appended : (r : ℕ) (cells : List Cell) (q : ℕ) → OwedPast r cells → OwedPast r (cells ++ owed q ∷ [])
-past_appended zero cells q e = omega (arith, e, all-owed-append cells (owed q ∷ []), length-append cells (owed q ∷ []))
+past_appended zero cells q e = omega (arith, e, all_owed_append cells (owed q ∷ []), length-append cells (owed q ∷ []))
 past_appended (suc r) [] q e = past_nothing r
 past_appended (suc r) (c ∷ cells) q e = past_appended r cells q e
 

@@ -12,7 +12,7 @@ use Rattle.model.specs.Sizes.{paper, store_bytes}
 use Rattle.model.specs.State.{State, keeps}
 use Rattle.model.specs.Slot as model
 use Rattle.model.specs.Slot.{number_alone}
-use Rattle.model.proofs.basics.Tests.{by-test}
+use Rattle.model.proofs.basics.Tests.{by_test}
 use Rattle.model.proofs.one_slot.Rules.{keeps-facts}
 use Rattle.packets.specs.Packets.{PacketRecord, record_keeps, PacketCall, packet_refusals, packet_refusal}
 use Rattle.layout.specs.Calls.{reply_in}
@@ -57,7 +57,7 @@ as_request true false false = refl
 -- Neither came: the state's own number is 0, and the record keeps the rules.
 nothing-judged : (n : ℕ) (kept : Bool) → with_record n kept ≡ 0 → (n ≡ 0) × (kept ≡ true)
 nothing-judged n kept e =
-    by-test (eqb n 3)
+    by_test (eqb n 3)
     (λ t. let z : ◌≡◌ {A = ℕ} 3 0 = rw t at e in absurd (omega (arith, z)))
     (λ t. go kept (rw t at e))
   where
@@ -81,8 +81,8 @@ module _ {regs : Regs} (m : Arrays) (store : List ℕ) (p : RecordArrays) {befor
   pub few_queues : (n ≡ 3 → ⊥) → before.queues ≤ queue_places
   few_queues f =
       subst (λ (g : Regs). g.queues ≤ queue_places) (sym read-in)
-      (by-test (keeps paper x)
-      (λ t. (in_limits regs (keeps-facts paper x t).sizes-ok).q-high)
+      (by_test (keeps paper x)
+      (λ t. (in_limits regs (keeps-facts paper x t).sizes-ok).q_high)
       (λ t. absurd (f (here.0 ∙ number_broken (keeps paper x) (sizes_in regs) (length store) t))))
 
   module _ {packet : PacketRegs} (record-in : packet ≡ packet_regs_in p.regs) {k : ℕ}

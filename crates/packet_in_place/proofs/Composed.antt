@@ -14,7 +14,7 @@ use Rattle.model.specs.Sizes.{Sizes, paper, store_bytes}
 use Rattle.model.specs.State.{Byte, State, keeps}
 use Rattle.model.specs.Slot as model
 use Rattle.model.specs.Slot.{Call, arrival_unknown, number_alone, Answer, refuse, answer, slot}
-use Rattle.model.proofs.basics.FirstRefusal.{no-refusal-at, when-zero, last-refusal}
+use Rattle.model.proofs.basics.FirstRefusal.{no_refusal_at, when-zero, last_refusal}
 use Rattle.model.proofs.one_slot.Accepted.{refusal-told}
 use Rattle.model.proofs.one_slot.Kept.{slot_kept}
 use Rattle.packets.specs.Packets.{PacketRecord, record_keeps, PacketArrival, start, next, PacketCall, byte_in, byte_call}
@@ -134,7 +134,7 @@ module _ {regs : Regs} {m : Arrays} {counts : ByQueue} {store : List ℕ} (ready
   -- The layer lets it pass: the byte's queue is known, and so is that of the packet last asked for.
   module _ (passed : first_refusal own ≡ 0) where
     byte-known : arrival_unknown x (byte_in rec.incoming call.arrival) ≡ false
-    byte-known = when-zero _ 3 (no-refusal-at own 0 passed)
+    byte-known = when-zero _ 3 (no_refusal_at own 0 passed)
 
     pub byte_fits : QueueFits (byte_in rec.incoming call.arrival)
     byte_fits = go (byte_in rec.incoming call.arrival) byte-known
@@ -142,11 +142,11 @@ module _ {regs : Regs} {m : Arrays} {counts : ByQueue} {store : List ℕ} (ready
         go : (o : Option Byte) → arrival_unknown x o ≡ false → QueueFits o
         go none e = tt
         go (some y) e =
-            omega (arith, leb-false regs.queues y.queue e, (standing.limits ready).q-high)
+            omega (arith, leb-false regs.queues y.queue e, (standing.limits ready).q_high)
 
     pub asked-fits : rec.asked < 256
     asked-fits =
-        omega (arith, (record-facts regs.queues rec v.record_keeps).asked-below, (standing.limits ready).q-high)
+        omega (arith, (record-facts regs.queues rec v.record_keeps).asked-below, (standing.limits ready).q_high)
 
     -- The slot goes by the buffer's own.
     module _ {regs₁ : Regs} {answered : Reply} {m' : Arrays} {counts' : ByQueue} {store' : List ℕ}
@@ -158,13 +158,13 @@ module _ {regs : Regs} {m : Arrays} {counts : ByQueue} {store : List ℕ} (ready
       told = ap (λ (a : Answer). a.reply.number) answers
 
       buffer_first : packet_refusal paper x store rec call ≡ answered.number
-      buffer_first = refusal_is ∙ last-refusal own buffer_number passed ∙ sym told
+      buffer_first = refusal_is ∙ last_refusal own buffer_number passed ∙ sym told
 
       same-queues : regs₁.queues ≡ regs.queues
       same-queues =
           ap (λ (a : Answer). a.state.sizes.Q) answers
           ∙ ap (λ (s : Sizes). s.Q)
-          (slot_kept paper x store (byte_call rec call) (omega arith) (standing.kept ready)).same_sizes
+          (slot_kept paper x store (byte_call rec call) (omega arith) (standing.kept ready)).same-sizes
 
       -- The buffer stops the slot: the record has not changed either.
       pub buffer_stopped : (answered.number ≡ 0 → ⊥)
@@ -193,7 +193,7 @@ module _ {regs : Regs} {m : Arrays} {counts : ByQueue} {store : List ℕ} (ready
         pub turn_facts : TurnFacts rec call
         turn_facts = record {
           queues = regs.queues;
-          queues_few = (standing.limits ready).q-high;
+          queues_few = (standing.limits ready).q_high;
           record_keeps = v.record_keeps;
           start_below = fits.start_below;
           length_right = fits.length_right;

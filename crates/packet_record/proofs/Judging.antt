@@ -11,8 +11,8 @@ use lib.Dec.{eqb, ltb}
 use lib.ListN.{get_or}
 use borrow.Author.Tests.{lt-ltb, le-ltb, le-leb, lt-leb}
 use Rattle.model.specs.Basics.{all_of, all_below, tabulate}
-use Rattle.model.proofs.basics.Tests.{by-test, true-not-false, and_both}
-use Rattle.model.proofs.basics.AllOf.{all-of-at, all-of-more, all-below-facts, all-true-not, tabulate-at}
+use Rattle.model.proofs.basics.Tests.{by_test, true_not_false, and_both}
+use Rattle.model.proofs.basics.AllOf.{all_of_at, all_of_more, all_below_facts, all_true_not, tabulate-at}
 use Rattle.packets.specs.Packets.{longest_packet, most_listed, coming, PacketRecord, length_ok, coming_to, list_ok}
 use Rattle.packets.specs.Packets.{coming_ok, record_rules, record_keeps}
 use Rattle.packets.proofs.Slots.{LengthOk, length-facts, length-holds}
@@ -22,25 +22,25 @@ use Rattle.packet_record.proofs.Lists.{length-tabulate, tabulate-more, list_leng
 
 -- A length outside the range.
 pub length-not : (n : ℕ) → (LengthOk n → ⊥) → length_ok n ≡ false
-length-not n h = by-test (length_ok n) (λ t. absurd (h (length-facts n t))) (λ t. t)
+length-not n h = by_test (length_ok n) (λ t. absurd (h (length-facts n t))) (λ t. t)
 
 -- The first i lengths are in the range, one more is, or one is not.
 module _ (f : ℕ → ℕ) (i : ℕ) where
   pub more_keep : all_of length_ok (tabulate i f) ≡ true → LengthOk (f i) → all_of length_ok (tabulate (i + 1) f) ≡ true
-  more_keep e h = rw (tabulate-more i f) (all-of-more length_ok (tabulate i f) (f i) e (length-holds (f i) h))
+  more_keep e h = rw (tabulate-more i f) (all_of_more length_ok (tabulate i f) (f i) e (length-holds (f i) h))
 
   pub one_breaks : (n : ℕ) → i < n → (LengthOk (f i) → ⊥) → false ≡ all_of length_ok (tabulate n f)
   one_breaks n l h =
-      by-test (all_of length_ok (tabulate n f))
+      by_test (all_of length_ok (tabulate n f))
       (λ t. absurd (h (length-facts (f i) (ap length_ok (sym (tabulate-at n f i 0 l))
-      ∙ all-of-at length_ok (tabulate n f) i 0 t (omega (arith, length-tabulate n f))))))
+      ∙ all_of_at length_ok (tabulate n f) i 0 t (omega (arith, length-tabulate n f))))))
       (λ t. sym t)
 
 -- At most one packet comes in to a queue.
 pub coming-few : (regs : PacketRegs) (q : ℕ) → coming_to q (incoming_of regs) ≤ 1
 coming-few regs q =
-    by-test regs.comes
-    (λ t. by-test (eqb regs.queue q) (λ u. rw t (rw u (omega arith))) (λ u. rw t (rw u (omega arith))))
+    by_test regs.comes
+    (λ t. by_test (eqb regs.queue q) (λ u. rw t (rw u (omega arith))) (λ u. rw t (rw u (omega arith))))
     (λ t. rw t (omega arith))
 
 -- The list of one queue.
@@ -65,8 +65,8 @@ module _ (test : ℕ → Bool) (q : ℕ) where
 
   pub one_not : (n : ℕ) → q < n → test q ≡ false → false ≡ all_below n test
   one_not n l h =
-      by-test (all_below n test)
-      (λ t. absurd (true-not-false (test q) (all-below-facts n test t q l) h))
+      by_test (all_below n test)
+      (λ t. absurd (true_not_false (test q) (all_below_facts n test t q l) h))
       (λ t. sym t)
 
 -- The packet coming in.
@@ -87,7 +87,7 @@ module _ (Q q n i : ℕ) where
 -- The whole record.
 module _ (Q : ℕ) (r : PacketRecord) where
   rule_not : (i : ℕ) → get_or (record_rules Q r) i true ≡ false → false ≡ record_keeps Q r
-  rule_not i e = sym (all-true-not (record_rules Q r) i e)
+  rule_not i e = sym (all_true_not (record_rules Q r) i e)
 
   pub asked-past : Q ≤ r.asked → false ≡ record_keeps Q r
   asked-past h = rule_not 3 (le-ltb r.asked Q h)

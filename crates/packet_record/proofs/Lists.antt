@@ -14,7 +14,7 @@ use lib.Seq.{get_or-set_same, get_or-set_other}
 use borrow.Author.Tests.{eqb-false, ltb-true, ltb-false}
 use Rattle.model.specs.Basics.{choose, tabulate}
 use Rattle.model.specs.Lists.{asks}
-use Rattle.model.proofs.basics.Tests.{by-test, at-queue, eqb_same}
+use Rattle.model.proofs.basics.Tests.{by_test, at_queue_lem, eqb_same}
 use Rattle.model.proofs.basics.AllOf.{tabulate-at}
 use Rattle.layout.specs.Lengths.{queue_places}
 use Rattle.packets.specs.Packets.{most_listed}
@@ -58,7 +58,7 @@ module _ (q : ℕ) (lengths listed : List ℕ) (long : ListsLong lengths listed)
       → ((k : ℕ) → q * most_listed + most_listed ≤ k → P k)
       → (p i : ℕ) → eqb q p ≡ false → i < get_or listed p 0 → P (p * most_listed + i)
   other_place P before behind p i t l =
-      by-test (ltb p q)
+      by_test (ltb p q)
       (λ u. before (p * most_listed + i) (omega (arith, short p (ltb-true p q u), ltb-true p q u)))
       (λ u. behind (p * most_listed + i) (omega (arith, ltb-false p q u, eqb-false q p t)))
 
@@ -99,7 +99,7 @@ module _ (q : ℕ) (lengths listed : List ℕ) (long : ListsLong lengths listed)
         listed_long = length-set listed q (count + 1) ∙ long.listed_long;
       };
       lists_are =
-          at-queue
+          at_queue_lem
           (λ p. list_in lengths_in listed_in p ≡ list_in lengths listed p ++ choose (eqb q p) (size ∷ []) []) q
           (rw (eqb_same q) own_entered)
           (λ p t. rw t (other_entered p t ∙ sym (append-nil (list_in lengths listed p))));
@@ -146,7 +146,7 @@ module _ (q : ℕ) (lengths listed : List ℕ) (long : ListsLong lengths listed)
       };
       oldest_is = oldest;
       lists_are =
-          at-queue
+          at_queue_lem
           (λ p. list_in lengths' listed_out p ≡ drop (asks p (some q)) (list_in lengths listed p)) q
           (rw (eqb_same q) own_taken)
           (λ p t. rw t (other_taken p t));

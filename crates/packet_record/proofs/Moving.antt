@@ -8,7 +8,7 @@ use lib.Dec.{ltb}
 use lib.ListN.{length, set, get_or, length-set}
 use lib.Seq.{get_or-set_same, get_or-set_other}
 use borrow.Author.Tests.{ltb-true, ltb-false}
-use Rattle.model.proofs.basics.Tests.{by-test}
+use Rattle.model.proofs.basics.Tests.{by_test}
 use Rattle.packet_record.specs.Says.{MovedDown}
 
 pub record MovedTo (first i : ℕ) (lengths lengths' : List ℕ) : Type 0 where
@@ -35,7 +35,7 @@ module _ (first i : ℕ) (lengths lengths' : List ℕ) (there : first + i < leng
 
   next_moved : (k : ℕ) → k < i + 1 → get_or next (first + k) 0 ≡ get_or lengths (first + (k + 1)) 0
   next_moved k l =
-      by-test (ltb k i)
+      by_test (ltb k i)
       (λ t. let h = ltb-true k i t in other (first + k) (λ e. omega (arith, e)) ∙ to.moved k h)
       (λ t. let e : k ≡ i = omega (arith, ltb-false k i t) in
       rw e

@@ -11,7 +11,7 @@ use lib.Dec.{eqb, ltb, leb}
 use lib.ListN.{length, drop, get_or, length-append, length-drop}
 use borrow.Author.Tests.{eqb-false}
 use Rattle.model.specs.Lists.{asks}
-use Rattle.model.proofs.basics.Tests.{by-test, eqb_same, some_inj, none-not-some, true-not-false}
+use Rattle.model.proofs.basics.Tests.{by_test, eqb_same, some_inj, none_not_some, true_not_false}
 use Rattle.packets.specs.Packets.{most_listed, Coming, coming, PacketRecord, PacketArrival, start, next}
 use Rattle.packets.specs.Packets.{PacketCall, packet_drops, packet_taken, grown, is_whole, entering, incoming_after}
 use Rattle.packets.specs.Packets.{left_after, record_after}
@@ -67,8 +67,8 @@ module _ (regs : PacketRegs) (lengths listed : List ℕ) (number : ℕ) where
     -- Nothing is left of an earlier packet, and the list has one.
     pub one_listed : 1 ≤ get_or listed q 0
     one_listed =
-        by-test (ltb 0 regs.left)
-        (λ t. absurd (true-not-false true refl (rw t at not-dropped)))
+        by_test (ltb 0 regs.left)
+        (λ t. absurd (true_not_false true refl (rw t at not-dropped)))
         (λ t. let e : eqb (length (list_in lengths listed q)) 0 ≡ false = rw t at not-dropped in
         let d = eqb-false (length (list_in lengths listed q)) 0 e in
         let same = list_length lengths listed q in
@@ -118,7 +118,7 @@ module _ (r : PacketRecord) (call : PacketCall) (facts : TurnFacts r call) where
         where
           further : (o : Option Coming) → r.incoming ≡ o → grown o (some (next v)) ≡ some c
               → c.queue < facts.queues
-          further none h k = absurd (none-not-some c k)
+          further none h k = absurd (none_not_some c k)
           further (some d) h k =
               subst (λ (d : Coming). d.queue < facts.queues)
               (some_inj (coming d.queue d.size (d.bytes_in + 1)) c k)

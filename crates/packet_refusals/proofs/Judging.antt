@@ -10,7 +10,7 @@ use lib.Dec.{ltb, leb}
 use lib.ListN.{get_or}
 use borrow.Author.Tests.{leb-false, ltb-true, ltb-false, le-leb, lt-leb}
 use Rattle.model.specs.Sizes.{paper_limits, accepts}
-use Rattle.model.proofs.basics.Tests.{by-test}
+use Rattle.model.proofs.basics.Tests.{by_test}
 use Rattle.packets.specs.Packets.{longest_packet, length_ok, Coming, PacketArrival, start, length_wrong}
 use Rattle.layout.specs.Counts.{by_queue}
 use Rattle.layout.specs.Figures.{Figures, figures_in}
@@ -32,7 +32,7 @@ some_wrong (suc n) f = rw (le-leb 1 (suc n) (omega arith)) (turned longest_packe
   where
     turned : (m k : ℕ) → ltb m k ≡ not (leb k m)
     turned m k =
-        by-test (ltb m k)
+        by_test (ltb m k)
         (λ t. t ∙ sym (ap not (lt-leb k m (ltb-true m k t))))
         (λ t. t ∙ sym (ap not (le-leb k m (ltb-false m k t))))
 
@@ -43,7 +43,7 @@ start_below regs c q n v e = leb-false regs.queues q e
 
 pub start_in : (regs : Regs) (c : Option Coming) (q n v : ℕ) → accepts paper_limits (sizes_in regs) ≡ true
     → arrival_unknown_now (sizes_in regs) c (some (start q n v)) ≡ false → q < queue_places
-start_in regs c q n v ok e = omega (arith, (in_limits regs ok).q-high, start_below regs c q n v e)
+start_in regs c q n v ok e = omega (arith, (in_limits regs ok).q_high, start_below regs c q n v e)
 
 -- A queue's free store, as the code reads it.
 module _ (regs : Regs) (tails stored : List ℕ) (q : ℕ) (l : q < regs.queues) where

@@ -19,7 +19,7 @@ use Rattle.model.specs.Slot.{carried_out, answer, slot}
 use Rattle.model.specs.Ideal.{waiting_with, stands_for}
 use Rattle.packets.specs.Packets.{Coming, PacketRecord, length_ok, PacketArrival, start, next, PacketCall, byte_in}
 use Rattle.packets.specs.Packets.{byte_call, length_wrong, free_store, no_room}
-use Rattle.model.proofs.basics.Tests.{by-test, eqb_same, some_inj, none-not-some}
+use Rattle.model.proofs.basics.Tests.{by_test, eqb_same, some_inj, none_not_some}
 use Rattle.model.proofs.one_slot.Rules.{Keeps, keeps-facts}
 use Rattle.model.proofs.one_slot.Halves.{arrival-stays, all_left}
 use Rattle.model.proofs.one_slot.Accepted.{Accepted, accepted-facts, refusal-told}
@@ -57,11 +57,11 @@ module _ (design : Design) (x : State) (store : List ℕ) (r : PacketRecord) (ca
     where
       go : (o : Option Coming) → r.incoming ≡ o → (a : Option PacketArrival) → length_wrong o a ≡ false
           → no_room x a ≡ false → byte_in o a ≡ some y → stored x y.queue < x.sizes.K * x.sizes.b
-      go o s none right room h = absurd (none-not-some y h)
+      go o s none right room h = absurd (none_not_some y h)
       go o s (some (start q n v)) right room h =
           subst (λ (z : Byte). stored x z.queue < x.sizes.K * x.sizes.b) (some_inj (byte q v) y h)
           (omega (arith, ltb-false (free_store x q) n room, (length-facts n (not-false (length_ok n) right)).0))
-      go none s (some (next v)) right room h = absurd (none-not-some y h)
+      go none s (some (next v)) right room h = absurd (none_not_some y h)
       go (some c) s (some (next v)) right room h =
           subst (λ (z : Byte). stored x z.queue < x.sizes.K * x.sizes.b) (some_inj (byte c.queue v) y h)
           (omega (arith, books.room c s, (books.record_keeps.coming_keeps c s).not-whole))
@@ -93,7 +93,7 @@ module _ (design : Design) (x : State) (store : List ℕ) (r : PacketRecord) (ca
 
   no_7 : nothing_to_take x bytes.arrival bytes.request ≡ false
   no_7 =
-      by-test (ltb 0 r.left)
+      by_test (ltb 0 r.left)
       (λ t. ap (λ (b : Bool). nothing_to_take x bytes.arrival (choose b (some r.asked) none)) t
       ∙ seven_exactly _ x store bytes.arrival r.asked books.record_keeps.asked-below store_fits kept.within
       ∙ ne_eqb (length (waiting_with (stands_for x store).waiting bytes.arrival r.asked)) 0

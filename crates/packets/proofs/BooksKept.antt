@@ -21,10 +21,10 @@ use Rattle.packets.specs.Packets.{byte_in, byte_asked, byte_call, length_wrong, 
 use Rattle.packets.specs.Packets.{packet_drops, packet_taken, grown, is_whole, entering, asked_after, left_after}
 use Rattle.packets.specs.Packets.{record_after, packet_accept}
 use Rattle.packets.specs.PacketLists.{PacketStep, packet_step, growing, ended, unended}
-use Rattle.model.proofs.basics.Tests.{by-test, some_inj, none-not-some, true-not-false}
-use Rattle.model.proofs.one_slot.Stored.{stored, stored-after}
-use Rattle.model.proofs.delay.Delay.{leftWaiting}
-use Rattle.model.proofs.delay.IdealSlot.{accepted-is-ideal}
+use Rattle.model.proofs.basics.Tests.{by_test, some_inj, none_not_some, true_not_false}
+use Rattle.model.proofs.one_slot.Stored.{stored, stored_after}
+use Rattle.model.proofs.delay.Delay.{left_waiting}
+use Rattle.model.proofs.delay.IdealSlot.{accepted-is_ideal}
 use Rattle.packets.proofs.Slots.{LengthOk, PacketAccepted, length-facts}
 use Rattle.packets.proofs.Kept.{grows, CallFits, taken-request_is, record-after-kept, accepted-fits}
 use Rattle.packets.proofs.Layer.{Where, Waits, brings, MayCome, ask_for, rest_after, rest_queue_after, after_taking}
@@ -34,7 +34,7 @@ use Rattle.packets.proofs.Notes.{coming_of, lengths_append, lengths_drop, first_
 use Rattle.packets.proofs.Notes.{note_comes, note_brings, note_grows, note_ends, note_enters}
 
 module _ (design : Design) (x : State) (store : List ℕ) (r : PacketRecord) (call : PacketCall) (g : Where)
-    (cells-ok : 1 ≤ design.cell_count x.sizes)
+    (cells_ok : 1 ≤ design.cell_count x.sizes)
     (books : Books x store r g) (f : PacketAccepted design x store r call) where
   abbrev bytes : Call
   bytes = byte_call r call
@@ -76,8 +76,8 @@ module _ (design : Design) (x : State) (store : List ℕ) (r : PacketRecord) (ca
       go none e = tt
       go (some (start q n v)) e =
           note_comes g.incoming (ap comes (sym books.coming_is)
-          ∙ by-test (comes r.incoming)
-          (λ t. absurd (true-not-false true refl (rw t at e)))
+          ∙ by_test (comes r.incoming)
+          (λ t. absurd (true_not_false true refl (rw t at e)))
           (λ t. t))
       go (some (next v)) e = tt
 
@@ -95,20 +95,20 @@ module _ (design : Design) (x : State) (store : List ℕ) (r : PacketRecord) (ca
   -- A packet request that was taken: no byte request was left, and its list has a length.
   not-dropped : (q : ℕ) → request ≡ some q → packet_drops r (some q) ≡ false
   not-dropped q e =
-      by-test (packet_drops r call.request)
-      (λ t. absurd (none-not-some q (rw t at e)))
+      by_test (packet_drops r call.request)
+      (λ t. absurd (none_not_some q (rw t at e)))
       (λ t. ap (packet_drops r) (sym (taken-request_is r call.request q e)) ∙ t)
 
   nothing_left : (q : ℕ) → request ≡ some q → r.left ≡ 0
   nothing_left q e =
-      by-test (ltb 0 r.left)
-      (λ t. absurd (true-not-false true refl (rw t at (not-dropped q e))))
+      by_test (ltb 0 r.left)
+      (λ t. absurd (true_not_false true refl (rw t at (not-dropped q e))))
       (λ t. omega (arith, ltb-false 0 r.left t))
 
   one_listed : (q : ℕ) → request ≡ some q → 1 ≤ length (r.lengths q)
   one_listed q e =
-      by-test (ltb 0 r.left)
-      (λ t. absurd (true-not-false true refl (rw t at (not-dropped q e))))
+      by_test (ltb 0 r.left)
+      (λ t. absurd (true_not_false true refl (rw t at (not-dropped q e))))
       (λ t. let n = eqb-false (length (r.lengths q)) 0 (rw t at (not-dropped q e)) in omega (arith, n))
 
   fits : CallFits x.sizes.Q r call
@@ -199,7 +199,7 @@ module _ (design : Design) (x : State) (store : List ℕ) (r : PacketRecord) (ca
       ∙ ap (after_taking g call.arrival) request-is
 
   left-waits : (q : ℕ) → (stands_for next_state next_store_lem).waiting q
-      ≡ leftWaiting (stands_for x store).waiting p.step q
+      ≡ left_waiting (stands_for x store).waiting p.step q
   left-waits q =
       ap (λ (i : Ideal). i.waiting q) ideal.leaves
       ∙ sym (ap (λ (a : Option Byte). drop (asks q p.step.request) (waiting_with (stands_for x store).waiting a q))
@@ -208,12 +208,12 @@ module _ (design : Design) (x : State) (store : List ℕ) (r : PacketRecord) (ca
       step_request)
     where
       ideal : IsIdealSlot x store bytes (carried_out 0 0 x store bytes)
-      ideal = accepted-is-ideal design x store bytes cells-ok (whole_accepted design x store r call g books f).judged
+      ideal = accepted-is_ideal design x store bytes cells_ok (whole_accepted design x store r call g books f).judged
 
   waits_so : Waits (after_taking g call.arrival request) (stands_for next_state next_store_lem).waiting
   waits_so q =
       left-waits q
-      ∙ subst (λ (h : Where). Waits h (leftWaiting (stands_for x store).waiting p.step)) there
+      ∙ subst (λ (h : Where). Waits h (left_waiting (stands_for x store).waiting p.step)) there
       (waits_on g (stands_for x store).waiting p books.waits slot-turns) q
 
   -- What a queue has stored grows by the slot's byte at most.
@@ -221,12 +221,12 @@ module _ (design : Design) (x : State) (store : List ℕ) (r : PacketRecord) (ca
   stores_few q =
       omega (
         arith,
-        stored-after design x store bytes cells-ok (whole_accepted design x store r call g books f).judged q,
+        stored_after design x store bytes cells_ok (whole_accepted design x store r call g books f).judged q,
       )
 
   one_byte : (q : ℕ) (a : Option Byte) → count_of q (arriving a) ≤ 1
   one_byte q none = omega arith
-  one_byte q (some y) = by-test (eqb y.queue q) (λ t. rw t (omega arith)) (λ t. rw t (omega arith))
+  one_byte q (some y) = by_test (eqb y.queue q) (λ t. rw t (omega arith)) (λ t. rw t (omega arith))
 
   abbrev Room : Coming → Type 0
   Room c = stored next_state c.queue + c.size ≤ x.sizes.K * x.sizes.b + c.bytes_in
@@ -250,15 +250,15 @@ module _ (design : Design) (x : State) (store : List ℕ) (r : PacketRecord) (ca
             ltb-false (free_store x q) n room,
             (length-facts n (not-false (length_ok n) right)).0,
           ))
-      go none s (some (next v)) right room few h = absurd (none-not-some c h)
+      go none s (some (next v)) right room few h = absurd (none_not_some c h)
       go (some d) s (some (next v)) right room few h =
           subst Room (some_inj (coming d.queue d.size (d.bytes_in + 1)) c h)
           (omega (arith, stores_one d.queue, books.room d s))
 
   still_coming : (o : Option Coming) (c : Coming) → choose (is_whole o) none o ≡ some c → o ≡ some c
   still_coming o c e =
-      by-test (is_whole o)
-      (λ t. absurd (none-not-some c (rw t at e)))
+      by_test (is_whole o)
+      (λ t. absurd (none_not_some c (rw t at e)))
       (λ t. rw t at e)
 
   books_so : Books next_state next_store_lem (record_after r call 0 0) (after_taking g call.arrival request)
@@ -290,5 +290,5 @@ module _ (design : Design) (x : State) (store : List ℕ) (r : PacketRecord) (ca
 
   -- And the ideal buffer is left as the slot's turn leaves it.
   pub waiting_left : (stands_for (slot design x store bytes).state (slot design x store bytes).store).waiting
-      ≡ leftWaiting (stands_for x store).waiting p.step
+      ≡ left_waiting (stands_for x store).waiting p.step
   waiting_left = fun_ext (λ q. ap (λ (a : Answer). (stands_for a.state a.store).waiting q) answered ∙ left-waits q)

@@ -20,7 +20,7 @@ use Rattle.packets.specs.Packets.{record_keeps, PacketArrival, start, next, Pack
 use Rattle.packets.specs.Packets.{length_wrong, comes, no_place, packet_refusal, packet_drops, packet_taken, grown}
 use Rattle.packets.specs.Packets.{is_whole, entering, incoming_after, asked_after, left_after, record_after}
 use Rattle.packets.specs.Packets.{PacketAnswer, packet_accept, packet_slot}
-use Rattle.model.proofs.basics.Tests.{by-test, eqb_same, some_inj, none-not-some, true-not-false}
+use Rattle.model.proofs.basics.Tests.{by_test, eqb_same, some_inj, none_not_some, true_not_false}
 use Rattle.model.proofs.basics.AllOf.{all_append}
 use Rattle.packets.proofs.Slots.{LengthOk, ComingKeeps, RecordKeeps, PacketAccepted, length-facts, record-facts}
 use Rattle.packets.proofs.Slots.{record-holds, packet_accepted, packet_accepts}
@@ -29,8 +29,8 @@ use Rattle.packets.proofs.Slots.{record-holds, packet_accepted, packet_accepts}
 pub taken-request_is : (r : PacketRecord) (request : Option ℕ) (q : ℕ) → packet_taken r request ≡ some q
     → request ≡ some q
 taken-request_is r request q e =
-    by-test (packet_drops r request)
-    (λ t. absurd (none-not-some q (rw t at e)))
+    by_test (packet_drops r request)
+    (λ t. absurd (none_not_some q (rw t at e)))
     (λ t. rw t at e)
 
 pub known_below : (x : State) (request : Option ℕ) (q : ℕ) → request_unknown x request ≡ false → request ≡ some q
@@ -71,8 +71,8 @@ module _ (Q : ℕ) (r : PacketRecord) (kept : RecordKeeps Q r) where
         size_ok = size;
         bytes_few = size.0;
         place_there =
-            by-test (comes r.incoming)
-            (λ t. absurd (true-not-false true refl (rw t at place)))
+            by_test (comes r.incoming)
+            (λ t. absurd (true_not_false true refl (rw t at place)))
             (λ t. leb-false most_listed (length (r.lengths q)) (rw t at place));
       })
     where
@@ -81,7 +81,7 @@ module _ (Q : ℕ) (r : PacketRecord) (kept : RecordKeeps Q r) where
   grows (some (next v)) known right place c e = go r.incoming refl e
     where
       go : (o : Option Coming) → r.incoming ≡ o → grown o (some (next v)) ≡ some c → Growing Q r c
-      go none f h = absurd (none-not-some c h)
+      go none f h = absurd (none_not_some c h)
       go (some d) f h =
           let k = kept.coming_keeps d f in
           subst (Growing Q r) (some_inj (coming d.queue d.size (d.bytes_in + 1)) c h) (record {
@@ -110,13 +110,13 @@ module _ (Q : ℕ) (r : PacketRecord) (kept : RecordKeeps Q r) where
             → length (r.lengths q) + length (entering q o) + coming_to q (choose (is_whole o) none o) ≤ most_listed
         room none f = omega (arith, kept.lists_short q l)
         room (some d) f =
-            by-test (eqb d.queue q)
+            by_test (eqb d.queue q)
             (λ t. let place = subst (λ (p : ℕ). length (r.lengths p) < most_listed) (eqb-true d.queue q t)
             (f d refl).place_there in
-            by-test (leb d.size d.bytes_in)
+            by_test (leb d.size d.bytes_in)
             (λ u. rw (u, t) (omega (arith, place)))
             (λ u. rw u (rw t (omega (arith, place)))))
-            (λ t. by-test (leb d.size d.bytes_in)
+            (λ t. by_test (leb d.size d.bytes_in)
             (λ u. rw (u, t) (omega (arith, kept.lists_short q l)))
             (λ u. rw u (rw t (omega (arith, kept.lists_short q l)))))
 
@@ -131,7 +131,7 @@ module _ (Q : ℕ) (r : PacketRecord) (kept : RecordKeeps Q r) where
         go : (o : Option Coming) → ((d : Coming) → o ≡ some d → Growing Q r d) → All LengthOk (entering q o)
         go none f = tt
         go (some d) f =
-            by-test (leb d.size d.bytes_in && eqb d.queue q)
+            by_test (leb d.size d.bytes_in && eqb d.queue q)
             (λ t. rw t ((f d refl).size_ok, tt))
             (λ t. rw t tt)
 
@@ -145,10 +145,10 @@ module _ (Q : ℕ) (r : PacketRecord) (kept : RecordKeeps Q r) where
       where
         go : (o : Option Coming) → ((d : Coming) → o ≡ some d → Growing Q r d) → choose (is_whole o) none o ≡ some d
             → ComingKeeps Q d
-        go none f h = absurd (none-not-some d h)
+        go none f h = absurd (none_not_some d h)
         go (some o) f h =
-            by-test (leb o.size o.bytes_in)
-            (λ t. absurd (none-not-some d (rw t at h)))
+            by_test (leb o.size o.bytes_in)
+            (λ t. absurd (none_not_some d (rw t at h)))
             (λ t. subst (ComingKeeps Q) (some_inj o d (rw t at h)) (record {
               queue_below = (f o refl).queue_below;
               size_ok = (f o refl).size_ok;
@@ -223,7 +223,7 @@ pub record_kept : (design : Design) (x : State) (store : List ℕ) (r : PacketRe
     → 1 ≤ design.cell_count x.sizes → keeps design x ≡ true → record_keeps x.sizes.Q r ≡ true
     → packet_refusal design x store r call ≡ 0
     → record_keeps x.sizes.Q (packet_slot design x store r call).packets ≡ true
-record_kept design x store r call cells-ok keeps-rules record_keeps e =
+record_kept design x store r call cells_ok keeps-rules record_keeps e =
     ap (λ (a : PacketAnswer). record_keeps x.sizes.Q a.packets) (packet_accepts design x store r call e)
     ∙ record-holds x.sizes.Q (packet_accept design x store r call).packets
     (record-after-kept x.sizes.Q r call reply.arrival_number reply.request_number

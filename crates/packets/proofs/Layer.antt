@@ -17,8 +17,8 @@ use Rattle.model.specs.Lists.{asks}
 use Rattle.model.specs.Ideal.{waiting_with}
 use Rattle.packets.specs.Packets.{PacketArrival, start, next}
 use Rattle.packets.specs.PacketLists.{PacketStep, Packet, growing, all_in, ended, unended}
-use Rattle.model.proofs.basics.Tests.{by-test}
-use Rattle.model.proofs.delay.Delay.{leftWaiting}
+use Rattle.model.proofs.basics.Tests.{by_test}
+use Rattle.model.proofs.delay.Delay.{left_waiting}
 use Rattle.packets.proofs.Slots.{LengthOk}
 
 -- What of the packets is where: the queue of the packet that is being asked for and what is left of it; the whole
@@ -118,15 +118,15 @@ part_grows q p none h = append-nil (part_of q p)
 part_grows q p (some (start k n v)) h = ap (λ (o : Option Packet). part_of q o ++ choose (eqb k q) (v ∷ []) []) h
 part_grows q none (some (next v)) h = refl
 part_grows q (some p) (some (next v)) h =
-    by-test (eqb p.queue q)
+    by_test (eqb p.queue q)
     (λ t. rw t)
     (λ t. rw t)
 
 part_ends : (q : ℕ) (p : Option Packet) → part_of q p ≡ join_all (ended q p) ++ part_of q (unended p)
 part_ends q none = refl
 part_ends q (some p) =
-    by-test (all_in p)
-    (λ t. by-test (eqb p.queue q)
+    by_test (all_in p)
+    (λ t. by_test (eqb p.queue q)
     (λ u. rw (t, u) (sym (append-nil (p.bytes ++ []) ∙ append-nil p.bytes)))
     (λ u. rw (t, u)))
     (λ t. rw t)
@@ -167,7 +167,7 @@ module _ (g : Where) (w : ℕ → List ℕ) (slot : PacketStep) (waits : Waits g
   in_order r = choose (eqb (rest_queue_after g r) q) (rest_after g r) [] ++ behind r
 
   abbrev Goal : Type 0
-  Goal = leftWaiting w slot.step q ≡ in_order slot.request
+  Goal = left_waiting w slot.step q ≡ in_order slot.request
 
   -- A byte request, and no packet request.
   by_byte : (v : ℕ) (vs : List ℕ) → g.rest ≡ v ∷ vs → Goal
@@ -182,13 +182,13 @@ module _ (g : Where) (w : ℕ → List ℕ) (slot : PacketStep) (waits : Waits g
       taken : drop (asks q (some g.queue)) (rest_of g q ++ (join_all (g.whole q) ++ new))
           ≡ choose (eqb g.queue q) vs [] ++ (join_all (g.whole q) ++ new)
       taken =
-          by-test (eqb g.queue q)
+          by_test (eqb g.queue q)
           (λ u. rw u (ap (λ (l : List ℕ). drop 1 (l ++ (join_all (g.whole q) ++ new))) e))
           (λ u. rw u)
 
   -- No byte request: a packet request, or none.
   rest_none : g.rest ≡ [] → rest_of g q ≡ []
-  rest_none e = by-test (eqb g.queue q) (λ u. rw u e) (λ u. rw u)
+  rest_none e = by_test (eqb g.queue q) (λ u. rw u e) (λ u. rw u)
 
   by_packet : g.rest ≡ [] → Goal
   by_packet e =
@@ -207,11 +207,11 @@ module _ (g : Where) (w : ℕ → List ℕ) (slot : PacketStep) (waits : Waits g
 
       go : (r : Option ℕ) → slot.request ≡ r → behind none ≡ in_order r
       go none f =
-          by-test (eqb g.queue q)
+          by_test (eqb g.queue q)
           (λ u. rw u (ap (λ (l : List ℕ). drop 1 l ++ behind none) (sym e)))
           (λ u. rw u)
       go (some p) f =
-          by-test (eqb p q)
+          by_test (eqb p q)
           (λ u. rw u (subst (λ (n : ℕ). behind none
           ≡ get_or (g.whole n) 0 [] ++ (join_all (drop 1 (g.whole q) ++ ended q grown) ++ part_of q (unended grown)))
           (sym (eqb-true p q u))
@@ -227,5 +227,5 @@ module _ (g : Where) (w : ℕ → List ℕ) (slot : PacketStep) (waits : Waits g
 
 -- So what waits stays as it should be.
 pub waits_on : (g : Where) (w : ℕ → List ℕ) (slot : PacketStep) → Waits g w → Turns g slot
-    → Waits (where_after g slot) (leftWaiting w slot.step)
+    → Waits (where_after g slot) (left_waiting w slot.step)
 waits_on g w slot waits t q = waits_at g w slot waits t q

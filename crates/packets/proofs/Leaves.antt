@@ -18,8 +18,8 @@ use Rattle.model.specs.Lists.{asks, request_at}
 use Rattle.model.specs.Ideal.{waiting_with, next_byte_of}
 use Rattle.packets.specs.PacketLists.{PacketStep, byte_steps, Packet, growing, ended, unended, packets_of}
 use Rattle.packets.specs.PacketLists.{packet_requests_of, packet_request_at}
-use Rattle.model.proofs.basics.Tests.{by-test, eqb_same, none-not-some, some_inj}
-use Rattle.model.proofs.delay.Delay.{leftWaiting, gives}
+use Rattle.model.proofs.basics.Tests.{by_test, eqb_same, none_not_some, some_inj}
+use Rattle.model.proofs.delay.Delay.{left_waiting, gives}
 use Rattle.packets.proofs.Slots.{LengthOk}
 use Rattle.packets.proofs.Layer.{Where, join_all, part_of, Waits, ask_for, rest_after, where_after, Turns}
 use Rattle.packets.proofs.Layer.{rest_queue_after, asks-it, no_packet}
@@ -28,7 +28,7 @@ use Rattle.packets.proofs.Layer.{rest_queue_after, asks-it, no_packet}
 pub data TakeTurns : Where → (ℕ → List ℕ) → List PacketStep → Type 0 where
   no_turn : {g : Where} {w : ℕ → List ℕ} → TakeTurns g w []
   one_turn : {g : Where} {w : ℕ → List ℕ} {slot : PacketStep} {slots : List PacketStep}
-      → Waits g w → Turns g slot → TakeTurns (where_after g slot) (leftWaiting w slot.step) slots
+      → Waits g w → Turns g slot → TakeTurns (where_after g slot) (left_waiting w slot.step) slots
       → TakeTurns g w (slot ∷ slots)
 
 -- A byte request takes the next byte of the packet.
@@ -75,7 +75,7 @@ rest_given (one_turn {g = g} {w = w} {slot = slot} {slots = slots} waits t layer
   where
     go : (r : List ℕ) → g.rest ≡ r → (i : ℕ) → i < length r → i < length (slot ∷ slots)
         → ((j : ℕ) → j < length (where_after g slot).rest → j < length slots
-        → Given (where_after g slot) (leftWaiting w slot.step) slots j)
+        → Given (where_after g slot) (left_waiting w slot.step) slots j)
         → Given g w (slot ∷ slots) i
     go [] e i l m on = absurd (omega arith)
     go (v ∷ vs) e zero l m on = given-first g w slot v vs e waits t slots
@@ -106,7 +106,7 @@ asks-few g slot q t = go slot.request refl
     go : (r : Option ℕ) → slot.request ≡ r → asks q r ≤ length (g.whole q)
     go none e = omega arith
     go (some p) e =
-        by-test (eqb p q)
+        by_test (eqb p q)
         (λ u. rw u (subst (λ (n : ℕ). 1 ≤ length (g.whole n)) (eqb-true p q u) (t.stands p e)))
         (λ u. rw u (omega arith))
 
@@ -153,7 +153,7 @@ pub record Leaves (g : Where) (w : ℕ → List ℕ) (slots : List PacketStep) (
 
 pub leaves_whole : {g : Where} {w : ℕ → List ℕ} {slots : List PacketStep} → TakeTurns g w slots
     → (t q : ℕ) → packet_request_at slots t ≡ some q → Leaves g w slots t q
-leaves_whole no_turn t q e = absurd (none-not-some q e)
+leaves_whole no_turn t q e = absurd (none_not_some q e)
 leaves_whole (one_turn {g = g} {w = w} {slot = slot} {slots = slots} waits turns layer) zero q e = record {
   bytes = first;
   packet_is = packet_first g slot slots q (turns.stands q e);
@@ -176,7 +176,7 @@ leaves_whole (one_turn {g = g} {w = w} {slot = slot} {slots = slots} waits turns
     r_is = ap (rest_after g) e
 
     given : (i : ℕ) → i < length first → 0 + 1 + i < length (slot ∷ slots)
-        → Given (where_after g slot) (leftWaiting w slot.step) slots i
+        → Given (where_after g slot) (left_waiting w slot.step) slots i
     given i l m = rest_given layer i (omega (arith, l, ap length r_is)) (omega (arith, m))
 
     one_on : (i : ℕ) → 0 + 1 + i ≡ suc i
@@ -202,7 +202,7 @@ no_request_past (slot ∷ slots) zero h = absurd (omega arith)
 no_request_past (slot ∷ slots) (suc t) h = no_request_past slots t (omega arith)
 
 asked-within : (slots : List PacketStep) (t q : ℕ) → request_at (byte_steps slots) t ≡ some q → t < length slots
-asked-within [] t q e = absurd (none-not-some q e)
+asked-within [] t q e = absurd (none_not_some q e)
 asked-within (slot ∷ slots) zero q e = omega arith
 asked-within (slot ∷ slots) (suc t) q e = omega (arith, asked-within slots t q e)
 
@@ -217,7 +217,7 @@ pub record AskedOf (g : Where) (slots : List PacketStep) (t q : ℕ) : Type 0 wh
   pub place_in : place < length bytes
 
 module _ (g : Where) (w : ℕ → List ℕ) (slot : PacketStep) (slots : List PacketStep) (turns : Turns g slot)
-    (layer : TakeTurns (where_after g slot) (leftWaiting w slot.step) slots) (t q : ℕ)
+    (layer : TakeTurns (where_after g slot) (left_waiting w slot.step) slots) (t q : ℕ)
     (e : request_at (byte_steps slots) t ≡ some q) where
   a-slot_earlier : AskedOf (where_after g slot) slots t q → AskedOf g (slot ∷ slots) (suc t) q
   a-slot_earlier h = record {
@@ -249,12 +249,12 @@ module _ (g : Where) (w : ℕ → List ℕ) (slot : PacketStep) (slots : List Pa
 
 pub asked-of_a_packet : {g : Where} {w : ℕ → List ℕ} {slots : List PacketStep} → TakeTurns g w slots
     → (t q : ℕ) → length g.rest ≤ t → request_at (byte_steps slots) t ≡ some q → AskedOf g slots t q
-asked-of_a_packet no_turn t q h e = absurd (none-not-some q e)
+asked-of_a_packet no_turn t q h e = absurd (none_not_some q e)
 asked-of_a_packet (one_turn {g = g} {w = w} {slot = slot} {slots = slots} waits turns layer) zero q h e =
     absurd (go g.rest h (sym turns.asks_is ∙ e))
   where
     go : (l : List ℕ) → length l ≤ 0 → ask_for g.queue l ≡ some q → ⊥
-    go [] h f = none-not-some q f
+    go [] h f = none_not_some q f
     go (v ∷ vs) h f = omega arith
 asked-of_a_packet (one_turn {g = g} {w = w} {slot = slot} {slots = slots} waits turns layer) (suc t) q h e =
     go slot.request refl (λ k. asked-of_a_packet layer t q k e)
@@ -266,6 +266,6 @@ asked-of_a_packet (one_turn {g = g} {w = w} {slot = slot} {slots = slots} waits 
         a-slot_earlier g w slot slots turns layer t q e
         (on (omega (arith, ap (λ (r : Option ℕ). length (rest_after g r)) f, length-drop 1 g.rest)))
     go (some p) f on =
-        by-test (leb (length (where_after g slot).rest) t)
+        by_test (leb (length (where_after g slot).rest) t)
         (λ u. a-slot_earlier g w slot slots turns layer t q e (on (leb-true (length (where_after g slot).rest) t u)))
         (λ u. asked-just_now g w slot slots turns layer t q e p f (leb-false (length (where_after g slot).rest) t u))

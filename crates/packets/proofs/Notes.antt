@@ -14,7 +14,7 @@ use Rattle.model.specs.Basics.{choose, All}
 use Rattle.packets.specs.Packets.{Coming, coming, PacketArrival, start, next, byte_in, comes, grown, is_whole}
 use Rattle.packets.specs.Packets.{entering}
 use Rattle.packets.specs.PacketLists.{Packet, growing, all_in, ended, unended}
-use Rattle.model.proofs.basics.Tests.{by-test, true-not-false}
+use Rattle.model.proofs.basics.Tests.{by_test, true_not_false}
 use Rattle.packets.proofs.Slots.{LengthOk}
 use Rattle.packets.proofs.Layer.{brings}
 
@@ -48,7 +48,7 @@ none_left (x ∷ l) e = absurd (omega (arith, e))
 -- Through a slot.
 pub note_comes : (p : Option Packet) → comes (coming_of p) ≡ false → p ≡ none
 note_comes none e = refl
-note_comes (some p) e = absurd (true-not-false true refl e)
+note_comes (some p) e = absurd (true_not_false true refl e)
 
 pub note_brings : (p : Option Packet) (a : Option PacketArrival) → byte_in (coming_of p) a ≡ brings p a
 note_brings p none = refl
@@ -65,15 +65,15 @@ note_grows (some p) (some (next v)) =
 
 pub note_ends : (p : Option Packet) → choose (is_whole (coming_of p)) none (coming_of p) ≡ coming_of (unended p)
 note_ends none = refl
-note_ends (some p) = by-test (all_in p) (λ t. rw t) (λ t. rw t)
+note_ends (some p) = by_test (all_in p) (λ t. rw t) (λ t. rw t)
 
 -- A packet that is whole now has the length that its start told.
 pub note_enters : (q : ℕ) (p : Option Packet) → ((c : Coming) → coming_of p ≡ some c → c.bytes_in ≤ c.size)
     → entering q (coming_of p) ≡ map (length {A = ℕ}) (ended q p)
 note_enters q none few = refl
 note_enters q (some p) few =
-    by-test (all_in p)
-    (λ t. by-test (eqb p.queue q)
+    by_test (all_in p)
+    (λ t. by_test (eqb p.queue q)
     (λ u. rw (t, u) (ap (λ (n : ℕ). n ∷ [])
     (let e : p.size ≡ length p.bytes
     = omega (arith, leb-true p.size (length p.bytes) t, few _ refl) in e)))

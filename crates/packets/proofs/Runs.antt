@@ -21,10 +21,10 @@ use Rattle.packets.specs.Packets.{PacketRecord, fresh_record, PacketCall, byte_c
 use Rattle.packets.specs.Packets.{packet_accept, packet_stop}
 use Rattle.packets.specs.PacketLists.{PacketStep, packet_step, PacketChain, accepted_packets, byte_steps}
 use Rattle.packets.specs.PacketLists as lists
-use Rattle.model.proofs.basics.Tests.{none-not-some}
-use Rattle.model.proofs.basics.Limits.{within-limits}
+use Rattle.model.proofs.basics.Tests.{none_not_some}
+use Rattle.model.proofs.basics.Limits.{within_limits}
 use Rattle.model.proofs.one_slot.Accepted.{outcome}
-use Rattle.model.proofs.no_miss.Good.{Good, good-fresh, slot-good}
+use Rattle.model.proofs.no_miss.Good.{Good, good_fresh, slot-good}
 use Rattle.model.proofs.Demand.{stands_fresh}
 use Rattle.packets.proofs.Slots.{PacketAccepted, StoppedOrAccepted, was_stopped, was_accepted, packet_outcome}
 use Rattle.packets.proofs.Slots.{fresh-record_keeps}
@@ -38,7 +38,7 @@ pub record FindsOrder (limits : Limits) (s : Sizes) (n : ℕ) (x : State) (store
     : Type 0 where
   pub good : Good limits x
   pub books : Books x store r g
-  pub same_sizes : x.sizes ≡ s
+  pub same-sizes : x.sizes ≡ s
   pub same_length : length store ≡ n
 
 pub data Runs (limits : Limits) (s : Sizes) (n : ℕ)
@@ -63,17 +63,17 @@ pub data Runs (limits : Limits) (s : Sizes) (n : ℕ)
 pub finds_order_fresh : (limits : Limits) (s : Sizes) (store : List ℕ) → accepts limits s ≡ true
     → FindsOrder limits s (length store) (fresh (full limits) s) store fresh_record nowhere
 finds_order_fresh limits s store e = record {
-  good = good-fresh limits s e;
+  good = good_fresh limits s e;
   books = record {
     lengths_are = λ q. refl;
     left_is = refl;
     asked_is = refl;
     coming_is = refl;
-    record_keeps = fresh-record_keeps s.Q (within-limits limits s e).q_low;
+    record_keeps = fresh-record_keeps s.Q (within_limits limits s e).q_low;
     waits = λ q. ap (λ (i : Ideal). i.waiting q) (stands_fresh limits s store) ∙ nothing (eqb 0 q);
-    room = λ c f. absurd (none-not-some c f);
+    room = λ c f. absurd (none_not_some c f);
   };
-  same_sizes = refl;
+  same-sizes = refl;
   same_length = refl;
 }
   where
@@ -92,7 +92,7 @@ finds_order_next limits s n x store r g call h f =
     (outcome (full limits) x store (byte_call r call)) in record {
       good = k.good;
       books = books_kept (full limits) x store r call g (omega arith) h.books f;
-      same_sizes = k.same_sizes ∙ h.same_sizes;
+      same-sizes = k.same-sizes ∙ h.same-sizes;
       same_length = k.same_length ∙ h.same_length;
     }
 

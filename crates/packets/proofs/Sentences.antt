@@ -25,7 +25,7 @@ use Rattle.packets.specs.Sentences.{InRange, RecordStands, MayComeIn, no_byte, f
 use Rattle.packets.specs.Sentences.{answered, Stands, StopsInOrder, HandsOn, AsksPacket, list_left, ListsLeft}
 use Rattle.packets.specs.Sentences.{Enters}
 use Rattle.packets.specs.Sentences.{ComesIn, RunsOn, PacketsSay}
-use Rattle.model.proofs.basics.Tests.{by-test, eqb_same, none-not-some, some_inj, true-not-false, and_both}
+use Rattle.model.proofs.basics.Tests.{by_test, eqb_same, none_not_some, some_inj, true_not_false, and_both}
 use Rattle.packets.proofs.Slots.{LengthOk, RecordKeeps, ComingKeeps, length-holds, record-facts, record-holds}
 use Rattle.packets.proofs.Slots.{packet_outcome, packet_accepted, packet_accepts, packet_refusal_told}
 use Rattle.packets.proofs.Slots.{PacketAccepted, StoppedOrAccepted, was_stopped, was_accepted}
@@ -78,7 +78,7 @@ stands_record Q r s = record-holds Q r (record {
     short : (q : ℕ) → q < Q → (o : Option Coming) → r.incoming ≡ o → length (r.lengths q) + coming_to q o ≤ most_listed
     short q l none e = omega (arith, s.lists_fit q l)
     short q l (some c) e =
-        by-test (eqb c.queue q)
+        by_test (eqb c.queue q)
         (λ t. rw t (omega (
           arith,
           subst (λ (p : ℕ). length (r.lengths p) ≤ 31) (eqb-true c.queue q t) (s.coming_fits c e),
@@ -120,7 +120,7 @@ module _ (design : Design) (x : State) (store : List ℕ) (r : PacketRecord) whe
 
   length-bad : (n : ℕ) → (InRange n → ⊥) → not (length_ok n) ≡ true
   length-bad n h =
-      by-test (length_ok n)
+      by_test (length_ok n)
       (λ t. absurd (h (range t)))
       (λ t. rw t)
     where
@@ -133,7 +133,7 @@ module _ (design : Design) (x : State) (store : List ℕ) (r : PacketRecord) whe
 
   place_taken_list : (q n v : ℕ) → length (r.lengths q) ≡ 32 → no_place r (some (start q n v)) ≡ true
   place_taken_list q n v e =
-      by-test (comes r.incoming)
+      by_test (comes r.incoming)
       (λ t. rw t)
       (λ t. rw t (le-leb 32 (length (r.lengths q)) (omega (arith, e))))
 
@@ -202,8 +202,8 @@ module _ (design : Design) (x : State) (store : List ℕ) (r : PacketRecord) whe
           → (keeps design x ≡ true → record_keeps x.sizes.Q r ≡ true → ⊥)
           → packet_refusal design x store r (packet_call arrival request) ≡ 3
       three_first arrival request h =
-          by-test (keeps design x)
-          (λ t. by-test (record_keeps x.sizes.Q r)
+          by_test (keeps design x)
+          (λ t. by_test (record_keeps x.sizes.Q r)
           (λ u. absurd (h t u))
           (λ u. rw (t, u)))
           (λ t. rw t)
@@ -224,7 +224,7 @@ module _ (r : PacketRecord) (call : PacketCall) (arrival_number request_number :
   after = record_after r call arrival_number request_number
 
   drops_empty : (q : ℕ) → r.lengths q ≡ [] → packet_drops r (some q) ≡ true
-  drops_empty q e = by-test (ltb 0 r.left) (λ t. rw t) (λ t. rw (t, e))
+  drops_empty q e = by_test (ltb 0 r.left) (λ t. rw t) (λ t. rw (t, e))
 
   drops_while_left : (q : ℕ) → 1 ≤ r.left → packet_drops r (some q) ≡ true
   drops_while_left q l = rw (lt-ltb 0 r.left l)

@@ -18,9 +18,9 @@ use Rattle.packets.specs.Packets.{longest_packet, most_listed, Coming, PacketRec
 use Rattle.packets.specs.Packets.{coming_to, list_ok, coming_ok, record_rules, record_keeps, PacketCall, byte_call}
 use Rattle.packets.specs.Packets.{length_wrong, no_place, no_room, packet_refusals, packet_refusal, PacketAnswer}
 use Rattle.packets.specs.Packets.{packet_accept, packet_stop, packet_answer, packet_slot}
-use Rattle.model.proofs.basics.Tests.{none-not-some, and_both, and_left, and_right, between-facts, between-holds}
-use Rattle.model.proofs.basics.AllOf.{all-of-facts, all-of-holds, all-below-facts, all-below-holds, all-true-at}
-use Rattle.model.proofs.basics.FirstRefusal.{no-refusal-at, when-zero}
+use Rattle.model.proofs.basics.Tests.{none_not_some, and_both, and_left, and_right, between-facts, between-holds}
+use Rattle.model.proofs.basics.AllOf.{all_of_facts, all_of_holds, all_below_facts, all_below_holds, all_true_at}
+use Rattle.model.proofs.basics.FirstRefusal.{no_refusal_at, when-zero}
 
 -- The rules of a record, as facts.
 abbrev pub LengthOk : ℕ → Type 0
@@ -48,7 +48,7 @@ pub record-facts : (Q : ℕ) (r : PacketRecord) → record_keeps Q r ≡ true �
 record-facts Q r e = record {
   lists_short = λ q l. leb-true (length (r.lengths q) + coming_to q r.incoming) most_listed
       (and_left (short q) (all_of length_ok (r.lengths q)) (list q l));
-  lengths_ok = λ q l. all-of-facts length_ok LengthOk length-facts (r.lengths q)
+  lengths_ok = λ q l. all_of_facts length_ok LengthOk length-facts (r.lengths q)
       (and_right (short q) (all_of length_ok (r.lengths q)) (list q l));
   coming_keeps = λ c f. coming c (ap (coming_ok Q) (sym f) ∙ rule 1);
   left_few = leb-true r.left longest_packet (rule 2);
@@ -56,19 +56,19 @@ record-facts Q r e = record {
 }
   where
     rule : (i : ℕ) → get_or (record_rules Q r) i true ≡ true
-    rule i = all-true-at (record_rules Q r) i e
+    rule i = all_true_at (record_rules Q r) i e
 
     short : ℕ → Bool
     short q = leb (length (r.lengths q) + coming_to q r.incoming) most_listed
 
     list : (q : ℕ) → q < Q → list_ok r q ≡ true
-    list q l = all-below-facts Q (list_ok r) (rule 0) q l
+    list q l = all_below_facts Q (list_ok r) (rule 0) q l
 
     coming : (c : Coming) → coming_ok Q (some c) ≡ true → ComingKeeps Q c
     coming c f = record {
-      queue_below = ltb-true c.queue Q (all-true-at tests 0 f);
-      size_ok = length-facts c.size (all-true-at tests 1 f);
-      not-whole = ltb-true c.bytes_in c.size (all-true-at tests 2 f);
+      queue_below = ltb-true c.queue Q (all_true_at tests 0 f);
+      size_ok = length-facts c.size (all_true_at tests 1 f);
+      not-whole = ltb-true c.bytes_in c.size (all_true_at tests 2 f);
     }
       where
         tests : List Bool
@@ -76,9 +76,9 @@ record-facts Q r e = record {
 
 pub record-holds : (Q : ℕ) (r : PacketRecord) → RecordKeeps Q r → record_keeps Q r ≡ true
 record-holds Q r v =
-    and_both _ _ (all-below-holds Q (list_ok r) (λ q l. and_both _ _
+    and_both _ _ (all_below_holds Q (list_ok r) (λ q l. and_both _ _
     (le-leb (length (r.lengths q) + coming_to q r.incoming) most_listed (v.lists_short q l))
-    (all-of-holds length_ok LengthOk length-holds (r.lengths q) (v.lengths_ok q l))))
+    (all_of_holds length_ok LengthOk length-holds (r.lengths q) (v.lengths_ok q l))))
     (and_both _ _ (coming r.incoming v.coming_keeps)
     (and_both _ _ (le-leb r.left longest_packet v.left_few)
     (and_both _ _ (lt-ltb r.asked Q v.asked-below)
@@ -127,7 +127,7 @@ module _ (design : Design) (x : State) (store : List ℕ) (r : PacketRecord) (ca
   }
     where
       none_at : (i : ℕ) → get_or (packet_refusals design x store r call) i 0 ≡ 0
-      none_at i = no-refusal-at (packet_refusals design x store r call) i e
+      none_at i = no_refusal_at (packet_refusals design x store r call) i e
 
       both : (keeps design x && record_keeps x.sizes.Q r) ≡ true
       both = not-false _ (when-zero (not (keeps design x && record_keeps x.sizes.Q r)) 2 (none_at 0))
@@ -159,7 +159,7 @@ pub fresh-record_keeps : (Q : ℕ) → 1 ≤ Q → RecordKeeps Q fresh_record
 fresh-record_keeps Q h = record {
   lists_short = λ q l. omega arith;
   lengths_ok = λ q l. tt;
-  coming_keeps = λ c e. absurd (none-not-some c e);
+  coming_keeps = λ c e. absurd (none_not_some c e);
   left_few = omega arith;
   asked-below = omega (arith, h);
 }

@@ -66,7 +66,7 @@ module _ (limits : Limits) (s : Sizes) (n : ℕ) (x : State) (store : List ℕ) 
 
   pub stopped_caches : CachesHold s step
   stopped_caches =
-      subst (λ (z : Sizes). CachesHold z step) going.same_sizes (record {
+      subst (λ (z : Sizes). CachesHold z step) going.same-sizes (record {
         tail_joined = going.good.kept.tail_fits;
         tail_ends = going.good.kept.tail_fits;
         head_read = going.good.kept.head_fits;
@@ -132,4 +132,4 @@ module _ (limits : Limits) (s : Sizes) (n : ℕ) (x : State) (store : List ℕ) 
       enough : ltb (length store) (store_bytes x.sizes) ≡ false
       enough =
           le-ltb (length store) (store_bytes x.sizes)
-          (omega (arith, long, going.same_length, ap store_bytes going.same_sizes))
+          (omega (arith, long, going.same_length, ap store_bytes going.same-sizes))

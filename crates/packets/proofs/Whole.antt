@@ -22,10 +22,10 @@ use Rattle.packets.specs.PacketLists.{PacketStep, packet_run, PacketChain, accep
 use Rattle.packets.specs.PacketLists.{packet_request_at}
 use Rattle.packets.specs.PacketLists as lists
 use Rattle.packets.specs.Whole.{LeavesWhole, OfAPacket, PacketsMeet, WholePackets}
-use Rattle.model.proofs.basics.Tests.{by-test}
+use Rattle.model.proofs.basics.Tests.{by_test}
 use Rattle.model.proofs.one_slot.Rules.{keeps-fresh}
 use Rattle.model.proofs.one_slot.Chains.{links}
-use Rattle.model.proofs.delay.Delay.{Delays, gives, chain-delays}
+use Rattle.model.proofs.delay.Delay.{Delays, gives, chain_delays}
 use Rattle.model.proofs.Demand.{quiet, stands_fresh, every_chain}
 use Rattle.packets.proofs.Layer.{Where, nowhere}
 use Rattle.packets.proofs.Leaves.{TakeTurns, leaves_whole, no_request_past, asked-of_a_packet}
@@ -39,14 +39,14 @@ use Rattle.packets.proofs.Stopped.{stopped_silent, stopped_caches, stopped_no_mi
 accepted-bytes : (ps : List PacketStep) → accepted (byte_steps ps) ≡ byte_steps (accepted_packets ps)
 accepted-bytes [] = refl
 accepted-bytes (p ∷ ps) =
-    by-test (eqb p.step.reply.number 0)
+    by_test (eqb p.step.reply.number 0)
     (λ t. rw t (ap (λ (l : List Step). p.step ∷ l) (accepted-bytes ps)))
     (λ t. rw t (accepted-bytes ps))
 
 accepted-twice : (ps : List PacketStep) → accepted (byte_steps (accepted_packets ps)) ≡ byte_steps (accepted_packets ps)
 accepted-twice [] = refl
 accepted-twice (p ∷ ps) =
-    by-test (eqb p.step.reply.number 0)
+    by_test (eqb p.step.reply.number 0)
     (λ t. rw t (rw t (ap (λ (l : List Step). p.step ∷ l) (accepted-twice ps))))
     (λ t. rw t (accepted-twice ps))
 
@@ -108,7 +108,7 @@ module _ (limits : Limits) (s : Sizes) (store : List ℕ) (steps : List PacketSt
       let c = runs_chain limits s (length store) run in
       subst (Delays (quiet s)) (accepted-twice steps)
       (subst (λ (i : Ideal). Delays i (accepted (byte_steps slots))) (stands_fresh limits s store)
-      (chain-delays (full limits) (omega arith) (keeps-fresh (full limits) s e) (links (full limits) c.1)))
+      (chain_delays (full limits) (omega arith) (keeps-fresh (full limits) s e) (links (full limits) c.1)))
 
   as_many : length (byte_steps slots) ≡ length slots
   as_many = length-map slots (λ (p : PacketStep). p.step)
@@ -121,7 +121,7 @@ module _ (limits : Limits) (s : Sizes) (store : List ℕ) (steps : List PacketSt
         in_range = h.in_range;
         asked = h.asked;
         alone = λ i l.
-            by-test (leb (length slots) (t + 1 + i))
+            by_test (leb (length slots) (t + 1 + i))
             (λ u. no_request_past slots (t + 1 + i) (leb-true (length slots) (t + 1 + i) u))
             (λ u. h.alone i l (leb-false (length slots) (t + 1 + i) u));
         leaves = λ i l m.

@@ -9,7 +9,7 @@ use Rattle.model.specs.Sizes.{paper}
 use Rattle.model.specs.State.{State}
 use Rattle.model.specs.Slot.{number_alone, Answer, refuse, slot}
 use Rattle.model.specs.Calls.{idle}
-use Rattle.model.proofs.idle.Stretch.{stretch-refused}
+use Rattle.model.proofs.idle.Stretch.{stretch_refused}
 use Rattle.layout.specs.declared.Regs.{Regs}
 use Rattle.layout.specs.declared.Reply.{Reply}
 use Rattle.layout.specs.Calls.{reply_in}
@@ -19,8 +19,8 @@ use Rattle.run_checked.specs.Says.{IdleCheckedSays}
 pub none_idled : (x : State) (store : List ℕ) (n : ℕ) {regs : Regs} {reply : Reply} → n ≡ 0
     → reply_in reply ≡ number_alone 0
     → IdleCheckedSays x store n (record { regs = regs; passed = 0; reply = reply }) x store
-none_idled x store n none-asked alone = record {
-  stretch = record { passed_is = omega (arith, none-asked); quiet_first = tt; last_is = alone };
+none_idled x store n none_asked alone = record {
+  stretch = record { passed_is = omega (arith, none_asked); quiet_first = tt; last_is = alone };
   state_is = refl;
   store_is = refl;
   kept = λ e. e;
@@ -31,7 +31,7 @@ pub not-idled : (x : State) (store : List ℕ) (n : ℕ) {regs : Regs} {reply : 
     → IdleCheckedSays x store n (record { regs = regs; passed = 1; reply = reply }) x store
 not-idled x store n {number = number} says some-asked other alone = record {
   stretch = record {
-    passed_is = omega (arith, stretch-refused paper x store number n refused other, some-asked);
+    passed_is = omega (arith, stretch_refused paper x store number n refused other, some-asked);
     quiet_first = tt;
     last_is = alone ∙ sym (ap (λ (a : Answer). a.reply) refused);
   };

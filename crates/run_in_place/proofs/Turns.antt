@@ -13,7 +13,7 @@ use Rattle.model.specs.Slot.{Call, Answer, slot}
 use Rattle.model.specs.Lists.{step_of, run, last_state, last_store}
 use Rattle.model.proofs.one_slot.Rules.{keeps-facts}
 use Rattle.model.proofs.one_slot.Kept.{slot_kept}
-use Rattle.model.proofs.one_slot.Lists.{last-append, last-store-append, run-append, run_length}
+use Rattle.model.proofs.one_slot.Lists.{last_append, last_store_append, run-append, run_length}
 use Rattle.layout.specs.Counts.{ByQueue}
 use Rattle.layout.specs.Calls.{arrival_in, request_in, call_in, reply_in}
 use Rattle.layout.specs.declared.Regs.{Regs}
@@ -126,12 +126,12 @@ module _ {i : ℕ} {x : State} {store : List ℕ} {calls : List Call} {before af
       state_is = ap (λ (b : Answer). b.state) answer
           ∙ ap (λ (s : State). (slot paper s store' (get_or calls i d)).state) w.state_is
           ∙ ap (λ (t : List ℕ). (slot paper y t (get_or calls i d)).state) w.store_is
-          ∙ sym (last-append paper x store (take i calls) (get_or calls i d ∷ []))
+          ∙ sym (last_append paper x store (take i calls) (get_or calls i d ∷ []))
           ∙ ap (last_state paper x store) (sym one_more);
       store_is = ap (λ (b : Answer). b.store) answer
           ∙ ap (λ (s : State). (slot paper s store' (get_or calls i d)).store) w.state_is
           ∙ ap (λ (t : List ℕ). (slot paper y t (get_or calls i d)).store) w.store_is
-          ∙ sym (last-store-append paper x store (take i calls) (get_or calls i d ∷ []))
+          ∙ sym (last_store_append paper x store (take i calls) (get_or calls i d ∷ []))
           ∙ ap (last_store paper x store) (sym one_more);
     }
 

@@ -15,8 +15,8 @@ use Rattle.model.specs.State.{Byte, State, keeps}
 use Rattle.model.specs.Slot.{Call, arrival_unknown, request_unknown, refusal, Answer, refuse, slot}
 use Rattle.model.specs.Lists.{taken}
 use Rattle.model.specs.Arbiter.{choice, arbiter_call, last_after, noting, arbiter_slot}
-use Rattle.model.proofs.basics.Tests.{by-test}
-use Rattle.model.proofs.basics.Limits.{within-limits}
+use Rattle.model.proofs.basics.Tests.{by_test}
+use Rattle.model.proofs.basics.Limits.{within_limits}
 use Rattle.model.proofs.one_slot.Rules.{keeps-facts}
 use Rattle.run_words.specs.Words.{nearest, near_byte, near_queue, near_call}
 
@@ -65,7 +65,7 @@ module _ (x : State) (store : List ℕ) (call : Call) where
 module _ (x : State) (store : List ℕ) (call : Call) (kept : keeps paper x ≡ true)
     (long : ltb (length store) (store_bytes x.sizes) ≡ false) where
   few : x.sizes.Q ≤ 255
-  few = omega (arith, (within-limits paper_limits x.sizes (keeps-facts paper x kept).sizes-ok).q-high)
+  few = omega (arith, (within_limits paper_limits x.sizes (keeps-facts paper x kept).sizes-ok).q_high)
 
   -- The call with this arrival and this request.
   abbrev with : Option Byte → Option ℕ → Call
@@ -75,14 +75,14 @@ module _ (x : State) (store : List ℕ) (call : Call) (kept : keeps paper x ≡ 
   near_request = with call.arrival (near_queue call.request)
 
   by_request : arrival_unknown x call.arrival ≡ false → slot paper x store near_request ≡ slot paper x store call
-  by_request known = by-test (request_unknown x call.request)
+  by_request known = by_test (request_unknown x call.request)
       (λ unknown. six x store near_request kept long known (request-above x few call.request unknown)
       ∙ sym (six x store call kept long known unknown))
       (λ fine. ap (λ (r : Option ℕ). slot paper x store (with call.arrival r))
       (request-known x few call.request fine))
 
   by_arrival : slot paper x store (near_call call) ≡ slot paper x store call
-  by_arrival = by-test (arrival_unknown x call.arrival)
+  by_arrival = by_test (arrival_unknown x call.arrival)
       (λ unknown. four x store (near_call call) kept long (arrival-above x few call.arrival unknown)
       ∙ sym (four x store call kept long unknown))
       (λ known. ap (λ (a : Option Byte). slot paper x store (with a (near_queue call.request)))
@@ -91,8 +91,8 @@ module _ (x : State) (store : List ℕ) (call : Call) (kept : keeps paper x ≡ 
 
 pub near_slot : (x : State) (store : List ℕ) (call : Call)
     → slot paper x store (near_call call) ≡ slot paper x store call
-near_slot x store call = by-test (keeps paper x)
-    (λ kept. by-test (ltb (length store) (store_bytes x.sizes))
+near_slot x store call = by_test (keeps paper x)
+    (λ kept. by_test (ltb (length store) (store_bytes x.sizes))
     (λ short. two x store (near_call call) kept short ∙ sym (two x store call kept short))
     (λ long. by_arrival x store call kept long))
     (λ broken. three x store (near_call call) broken ∙ sym (three x store call broken))
@@ -131,11 +131,11 @@ module _ (x : State) (store : List ℕ) (arrival other : Option Byte) where
   }
 
 pub near_arbiter : (x : State) (store : List ℕ) (arrival : Option Byte) → SameArbiter x store (near_byte arrival) arrival
-near_arbiter x store arrival = by-test (keeps paper x)
-    (λ kept. by-test (ltb (length store) (store_bytes x.sizes))
+near_arbiter x store arrival = by_test (keeps paper x)
+    (λ kept. by_test (ltb (length store) (store_bytes x.sizes))
     (λ short. both-refused x store near arrival 1 (two x store (call near) kept short)
     (two x store (call arrival) kept short))
-    (λ long. by-test (arrival_unknown x arrival)
+    (λ long. by_test (arrival_unknown x arrival)
     (λ unknown. both-refused x store near arrival 3
     (four x store (call near) kept long (arrival-above x (few x store (call arrival) kept long) arrival unknown))
     (four x store (call arrival) kept long unknown))

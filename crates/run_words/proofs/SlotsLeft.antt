@@ -6,9 +6,9 @@ use native.Mathlib.Omega.{arith}
 use Rattle.model.specs.Sizes.{paper, paper_limits}
 use Rattle.model.specs.State.{State}
 use Rattle.model.specs.Slot.{Call, Answer, wrote, halves_taken, slot}
-use Rattle.model.proofs.basics.Limits.{within-limits}
-use Rattle.model.proofs.meaning.Place.{slots-to-refill-within}
-use Rattle.model.proofs.one_slot.Accepted.{RefusedOrAccepted, was-refused, was_accepted, outcome}
+use Rattle.model.proofs.basics.Limits.{within_limits}
+use Rattle.model.proofs.meaning.Place.{slots_to_refill_within}
+use Rattle.model.proofs.one_slot.Accepted.{RefusedOrAccepted, was_refused, was_accepted, outcome}
 use Rattle.model.proofs.one_slot.Kept.{rules-written}
 use Rattle.run_words.specs.Words.{answer_slots}
 
@@ -20,11 +20,11 @@ slots_left_fit x store call = go (slot paper x store call) (outcome paper x stor
     left = halves_taken x call
 
     go : (a : Answer) → RefusedOrAccepted paper x store call a → a.reply.slots_left < answer_slots
-    go a (was-refused n e) = omega arith
+    go a (was_refused n e) = omega arith
     go a (was_accepted f) =
         omega (
           arith,
-          slots-to-refill-within (wrote x left),
+          slots_to_refill_within (wrote x left),
           (rules-written paper x store left (omega arith) f.judged).cells_long,
-          (within-limits paper_limits x.sizes f.judged.kept.sizes-ok).span-high,
+          (within_limits paper_limits x.sizes f.judged.kept.sizes-ok).span_high,
         )

@@ -11,7 +11,7 @@ use lib.Dec.{ltb}
 use lib.ListN.{length, drop, length-drop}
 use borrow.Author.Tests.{ltb-false, lt-ltb, le-ltb}
 use Rattle.model.specs.Basics.{choose}
-use Rattle.model.proofs.basics.Tests.{by-test}
+use Rattle.model.proofs.basics.Tests.{by_test}
 use Rattle.script_commands.specs.Commands.{Kind, Command, command, row, is_end, kind_of, widths, operands_in}
 use Rattle.script_commands.specs.Scripts.{Reading, refused, taken, out_of_place, read_known, read_code, read_command}
 use Rattle.script_commands.specs.Scripts.{Script}
@@ -59,9 +59,9 @@ read_as first (code ∷ bytes) = by_kind (kind_of code)
     by_kind : (found : Option Kind) → ReadAs first (code ∷ bytes) (read_code first found bytes)
     by_kind none = no_kind code bytes
     by_kind (some k) =
-        by-test (out_of_place first k)
+        by_test (out_of_place first k)
         (λ t. rw t (out_of_place_lem code bytes))
-        (λ t. by-test (ltb (length bytes) (widths (row k).operands))
+        (λ t. by_test (ltb (length bytes) (widths (row k).operands))
         (λ u. rw (t, u) (cut_short code bytes))
         (λ u. rw (t, u) (takes code bytes k t (ltb-false (length bytes) (widths (row k).operands) u))))
 

@@ -6,7 +6,7 @@ use mathlib.Core.Option.{some, none}
 use Prim.Native.Nat.{ℕ}
 use lib.Dec.{eqb}
 use borrow.Author.Tests.{eqb-true}
-use Rattle.model.proofs.basics.Tests.{by-test, none-not-some, some_inj}
+use Rattle.model.proofs.basics.Tests.{by_test, none_not_some, some_inj}
 use Rattle.script_commands.specs.Commands.{Kind, sizes, idle, arrive, ask, both, idles, end}
 use Rattle.script_commands.specs.Commands.{row, kinds, kind_among, kind_of}
 
@@ -32,9 +32,9 @@ kind_of_code end = refl
 
 -- And no kind is found by another code than its own.
 code_among : (ks : List Kind) (code : ℕ) (k : Kind) → kind_among ks code ≡ some k → (row k).code ≡ code
-code_among [] code k e = absurd (none-not-some k e)
+code_among [] code k e = absurd (none_not_some k e)
 code_among (j ∷ ks) code k e =
-    by-test (eqb (row j).code code)
+    by_test (eqb (row j).code code)
     (λ t. subst (λ (i : Kind). (row i).code ≡ code) (some_inj j k (sym (rw t) ∙ e)) (eqb-true (row j).code code t))
     (λ t. code_among ks code k (sym (rw t) ∙ e))
 

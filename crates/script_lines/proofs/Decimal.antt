@@ -8,7 +8,7 @@ use lib.Dec.{ltb}
 use lib.ListN.{length, length-append}
 use borrow.Author.Tests.{ltb-true, ltb-false, lt-ltb, le-ltb}
 use Rattle.io.specs.Digits.{hex_digit_ascii, last_digits, IsDigitCount}
-use Rattle.model.proofs.basics.Tests.{by-test}
+use Rattle.model.proofs.basics.Tests.{by_test}
 use Rattle.script_lines.specs.Lines.{digit, decimal_within, decimal}
 
 -- More steps than the number itself all give the same digits.
@@ -16,7 +16,7 @@ enough_steps : (i j n : ℕ) → n < i → n < j → decimal_within i n ≡ deci
 enough_steps zero j n h g = absurd (omega arith)
 enough_steps (suc i) zero n h g = absurd (omega arith)
 enough_steps (suc i) (suc j) n h g =
-    by-test (ltb n 10)
+    by_test (ltb n 10)
     (λ t. rw t)
     (λ t. let l : 10 ≤ n = ltb-false n 10 t in rw (t, enough_steps i j (n / 10) (omega arith) (omega arith)))
 
@@ -60,6 +60,6 @@ decimal-length (suc zero) n h g = rw (decimal-one n g) (omega arith)
 decimal-length (suc (suc k)) n h g =
     let most : n < 10 ^ suc k * 10 = rw (pow-suc 10 (suc k)) at g in
     let rest = decimal-length (suc k) (n / 10) (omega arith) (omega arith) in
-    by-test (ltb n 10)
+    by_test (ltb n 10)
     (λ t. rw (decimal-one n (ltb-true n 10 t)) (omega arith))
     (λ t. rw (decimal-more n (ltb-false n 10 t), length-append) (omega arith))

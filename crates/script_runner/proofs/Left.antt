@@ -10,7 +10,7 @@ use lib.ListN.{length, drop, length-drop, drop_of_length-le}
 use lib.Seq.{drop-drop}
 use borrow.Author.Tests.{ltb-true, ltb-false, lt-ltb, le-ltb}
 use Rattle.model.specs.Basics.{choose}
-use Rattle.model.proofs.basics.Tests.{by-test}
+use Rattle.model.proofs.basics.Tests.{by_test}
 use Rattle.model.specs.Sizes as of
 use Rattle.script_commands.specs.Commands.{sizes, Command, command, is_sizes, is_end}
 use Rattle.script_commands.specs.Scripts.{Reading, refused, taken, read_command, Script, after_end}
@@ -107,7 +107,7 @@ module _ (first : Bool) (script : List ℕ) (at : ℕ) (good : (judge_from first
         judged_on first at (drop at script) c n (sym e) t
         ∙ ap (λ (bytes : List ℕ). with_command c (judge_from false (at + n) bytes)) rest_is in
         let good-on = sym (ap (λ (s : Script). s.number) on) ∙ good in
-        by-test (ltb (at + n) (length script))
+        by_test (ltb (at + n) (length script))
         (λ u. on ∙ ap (with_command c) (sym (from_within script (at + n) (ltb-true (at + n) (length script) u))))
         (λ u.
         let none_left : drop (at + n) script ≡ [] =
@@ -120,7 +120,7 @@ module _ (first : Bool) (script : List ℕ) (at : ℕ) (good : (judge_from first
         )))
 
     after : judge_from first at (drop at script) ≡ with_command c (script_from script (at + n))
-    after = by-test (is_end c.kind) after_the_end goes_on
+    after = by_test (is_end c.kind) after_the_end goes_on
 
     pub commands_are : (judge_from first at (drop at script)).commands ≡ c ∷ (script_from script (at + n)).commands
     commands_are = ap (λ (s : Script). s.commands) after

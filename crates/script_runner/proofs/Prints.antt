@@ -13,8 +13,8 @@ use Rattle.model.specs.Sizes.{Sizes, sizes, paper_limits, accepts, paper, store_
 use Rattle.model.specs.State.{State, fresh, making_number, keeps}
 use Rattle.model.specs.Slot.{Call}
 use Rattle.model.specs.Lists.{run, last_store, accepted}
-use Rattle.model.proofs.basics.Limits.{Within, within-limits, row_within, store-within}
-use Rattle.model.proofs.one_slot.Rules.{made-accepted, keeps-fresh, keeps-holds}
+use Rattle.model.proofs.basics.Limits.{Within, within_limits, row_within, store_within}
+use Rattle.model.proofs.one_slot.Rules.{made_accepted, keeps-fresh, keeps-holds}
 use Rattle.layout.specs.Counts.{ByQueue}
 use Rattle.layout.specs.Views.{Arrays}
 use Rattle.buffer.specs.declared.Made.{Made}
@@ -200,16 +200,16 @@ module _ (q b k : ℕ) (made : Made) (says : MakeSays q b k made) (taken : made.
   not-refused = sym says.number_is ∙ taken
 
   accepted-sizes : accepts paper_limits (sizes q b k) ≡ true
-  accepted-sizes = made-accepted paper (sizes q b k) not-refused
+  accepted-sizes = made_accepted paper (sizes q b k) not-refused
 
   limits : Within paper_limits (sizes q b k)
-  limits = within-limits paper_limits (sizes q b k) accepted-sizes
+  limits = within_limits paper_limits (sizes q b k) accepted-sizes
 
   pub row_small : q * k ≤ 64 * 255
   row_small = row_within paper_limits (sizes q b k) limits
 
   pub need_small : q * k * b ≤ 64 * 255 * 128
-  need_small = store-within paper_limits (sizes q b k) limits
+  need_small = store_within paper_limits (sizes q b k) limits
 
   is_fresh : state_of made.state ≡ fresh paper (sizes q b k)
   is_fresh = says.fresh-is accepted-sizes

@@ -16,7 +16,7 @@ use Rattle.model.specs.Lists.{Step, step_of, run, last_state, last_store, accept
 use Rattle.model.specs.Idle.{last_answer}
 use Rattle.model.proofs.one_slot.Lists.{run_length}
 use Rattle.model.proofs.idle.QuietSlots.{idles-parts}
-use Rattle.model.proofs.idle.Stretch.{last-is-slot}
+use Rattle.model.proofs.idle.Stretch.{last_is_slot}
 use Rattle.layout.specs.Counts.{ByQueue}
 use Rattle.layout.specs.declared.Regs.{Regs}
 use Rattle.layout.specs.Calls.{reply_in}
@@ -247,7 +247,7 @@ module _ {x : State} {store : List ℕ} {n : ℕ} {r : Passed} {m : Arrays} {cou
     most_passed = omega (arith, says.stretch.passed_is)
 
     last_is : last_answer paper x store r.passed ≡ slot paper y bytes idle
-    last_is = last-is-slot paper x store r.passed some_passed
+    last_is = last_is_slot paper x store r.passed some_passed
 
     reply_last : reply_in r.reply ≡ last.reply
     reply_last = says.stretch.last_is ∙ ap (λ (a : Answer). a.reply) last_is

@@ -9,7 +9,7 @@ use Rattle.model.specs.Sizes.{paper}
 use Rattle.model.specs.State.{State}
 use Rattle.model.specs.Slot.{Call}
 use Rattle.model.specs.Lists.{run, last_state, last_store, accepted}
-use Rattle.model.proofs.one_slot.Lists.{last-append, last-store-append, run_length, accepted-few}
+use Rattle.model.proofs.one_slot.Lists.{last_append, last_store_append, run_length, accepted-few}
 use Rattle.layout.specs.Counts.{ByQueue}
 use Rattle.layout.specs.Views.{Arrays, state_in}
 use Rattle.slot_in_place.specs.Says.{Ready}
@@ -120,11 +120,11 @@ module _ (x : State) (store : List ℕ) (calls more : List Call) (t place : ℕ)
       state_is = next.state_is
           ∙ ap (λ (y : State). last_state paper y store' more) done.state_is
           ∙ ap (λ (bytes : List ℕ). last_state paper (last_state paper x store calls) bytes more) done.store_is
-          ∙ sym (last-append paper x store calls more);
+          ∙ sym (last_append paper x store calls more);
       store_is = next.store_is
           ∙ ap (λ (y : State). last_store paper y store' more) done.state_is
           ∙ ap (λ (bytes : List ℕ). last_store paper (last_state paper x store calls) bytes more) done.store_is
-          ∙ sym (last-store-append paper x store calls more);
+          ∙ sym (last_store_append paper x store calls more);
       slots_is = omega (
         arith,
         next.slots_is,

@@ -68,7 +68,7 @@ slot-lines_append t (step ∷ xs) ys =
     first : List Line
     first = answer_lines t step.reply
 
--- The same of a run of calls in two parts, the second on what the first left (`last-append` and `last-store-append` of
+-- The same of a run of calls in two parts, the second on what the first left (`last_append` and `last_store_append` of
 -- the model say what both leave).
 module _ (design : Design) (x : State) (store : List ℕ) (calls more : List Call) where
   abbrev pub gone_on : List Step

@@ -17,13 +17,13 @@ use Rattle.model.specs.State.{Byte, fresh}
 use Rattle.model.specs.Slot.{Reply}
 use Rattle.model.specs.Lists.{Step, accepted, deliveries}
 use Rattle.model.specs.Demand.{NoMiss, ListMeets}
-use Rattle.model.proofs.basics.Tests.{by-test}
-use Rattle.model.proofs.basics.AllOf.{all-of-facts}
-use Rattle.model.proofs.basics.FirstRefusal.{no-refusal-at, when-zero}
-use Rattle.model.proofs.basics.Limits.{within-limits}
+use Rattle.model.proofs.basics.Tests.{by_test}
+use Rattle.model.proofs.basics.AllOf.{all_of_facts}
+use Rattle.model.proofs.basics.FirstRefusal.{no_refusal_at, when-zero}
+use Rattle.model.proofs.basics.Limits.{within_limits}
 use Rattle.model.proofs.basics.Present.{one, present}
 use Rattle.model.proofs.one_slot.Lists.{run_length, accepted-few}
-use Rattle.model.proofs.one_slot.Stored.{reads, reads-few}
+use Rattle.model.proofs.one_slot.Stored.{reads, reads_few}
 use Rattle.model.proofs.Demand.{every_list}
 use Rattle.script_commands.specs.Commands as of
 use Rattle.script_commands.specs.Scripts.{Script, judge}
@@ -47,7 +47,7 @@ all_map P R f (x ∷ xs) h = (f x h.0, all_map P R f xs h.1)
 
 all_accepted : (P : Step → Type 0) (steps : List Step) → All P steps → All P (accepted steps)
 all_accepted P [] h = tt
-all_accepted P (step ∷ steps) h = by-test (eqb step.reply.number 0)
+all_accepted P (step ∷ steps) h = by_test (eqb step.reply.number 0)
     (λ t. rw t (h.0, all_accepted P steps h.1))
     (λ t. rw t (all_accepted P steps h.1))
 
@@ -155,12 +155,12 @@ module _ (s : Sizes) (store : List ℕ) (e : start_number s store ≡ 0) where
 
   pub sizes-accepted : accepts paper_limits s ≡ true
   sizes-accepted =
-      not-false (accepts paper_limits s) (when-zero (not (accepts paper_limits s)) 0 (no-refusal-at tests 0 e))
+      not-false (accepts paper_limits s) (when-zero (not (accepts paper_limits s)) 0 (no_refusal_at tests 0 e))
 
   store_long : store_bytes s ≤ length store
   store_long =
       ltb-false (length store) (store_bytes s)
-      (when-zero (ltb (length store) (store_bytes s)) 1 (no-refusal-at tests 1 e))
+      (when-zero (ltb (length store) (store_bytes s)) 1 (no_refusal_at tests 1 e))
 
 -- Demand 3 rules out every refusal that an idle slot could have.
 none_of_idle : (steps : List Step) → All NoMiss steps → All (λ (step : Step). step.reply.number ≡ 3 → ⊥) steps
@@ -168,7 +168,7 @@ none_of_idle : (steps : List Step) → All NoMiss steps → All (λ (step : Step
     → All (λ (step : Step). NoneOfIdle step.reply.number) steps
 none_of_idle [] miss three two = tt
 none_of_idle (step ∷ steps) miss three two = (
-  record { not_2 = two.0; not_3 = three.0; not-8 = miss.0.not-8; not_10 = miss.0.not_10 },
+  record { not-2 = two.0; not-3 = three.0; not-8 = miss.0.not-8; not_10 = miss.0.not_10 },
   none_of_idle steps miss.1 three.1 two.1,
 )
 
@@ -190,7 +190,7 @@ module _ (cs : List of.Command) (store : List ℕ) (e : start_number (sizes_of c
       omega (
         arith,
         deliveries-few (sizes_of cs) (accepted steps) meets.bytes,
-        reads-few paper_limits (sizes_of cs) store (slots_of_all cs) (sizes-accepted (sizes_of cs) store e),
+        reads_few paper_limits (sizes_of cs) store (slots_of_all cs) (sizes-accepted (sizes_of cs) store e),
         run-pays paper (fresh paper (sizes_of cs)) store (slots_of_all cs)
             (none_of_idle steps meets.no_miss meets.no_3 (meets.no_2 (store_long (sizes_of cs) store e))),
       )
@@ -211,11 +211,11 @@ module _ (cs : List of.Command) (store : List ℕ) (e : start_number (sizes_of c
       )
     where
       two_digits : (sizes_of cs).Q ≤ 100
-      two_digits = omega (arith, (within-limits paper_limits (sizes_of cs) (sizes-accepted (sizes_of cs) store e)).q-high)
+      two_digits = omega (arith, (within_limits paper_limits (sizes_of cs) (sizes-accepted (sizes_of cs) store e)).q_high)
 
       four_digits : lookahead (sizes_of cs) < 10_000
       four_digits =
-          omega (arith, (within-limits paper_limits (sizes_of cs) (sizes-accepted (sizes_of cs) store e)).span-high)
+          omega (arith, (within_limits paper_limits (sizes_of cs) (sizes-accepted (sizes_of cs) store e)).span_high)
 
       as_many : length steps ≡ length (slots_of_all cs)
       as_many = run_length paper (fresh paper (sizes_of cs)) store (slots_of_all cs)
@@ -230,7 +230,7 @@ started_fits (suc k) n cs store e values_small few paid =
 
 judged_fits : (s : Script) (n : ℕ) (store : List ℕ) → ScriptPays 1 0 n s → n ≤ most_bytes
     → length (text (judged_lines s store)) ≤ 11 * n + 11
-judged_fits s n store pays l = by-test (eqb s.number 0)
+judged_fits s n store pays l = by_test (eqb s.number 0)
     (λ t. rw t (started_fits (start_number (sizes_of s.commands) store) n s.commands store refl pays.values_small
     (omega (arith, pays.slots_few, l)) (pays.halves_paid (eqb-true s.number 0 t))))
     (λ t. rw t (omega (
@@ -242,7 +242,7 @@ judged_fits s n store pays l = by-test (eqb s.number 0)
 pub text-fits : (bytes store : List ℕ) → Bytes bytes
     → length (text (script_lines bytes store)) ≤ output_bound (length bytes)
 unfolding script_lines
-text-fits bytes store h = by-test (ltb most_bytes (length bytes))
+text-fits bytes store h = by_test (ltb most_bytes (length bytes))
     (λ t. rw t (omega (
       arith,
       ltb-true most_bytes (length bytes) t,
@@ -259,4 +259,4 @@ text-fits bytes store h = by-test (ltb most_bytes (length bytes))
 listing_fits : length (prints listing) ≤ output_bound (length listing.script)
 listing_fits =
     text-fits listing.script (replicate listing.store_length 0)
-    (all-of-facts (λ (x : ℕ). ltb x 256) (λ (x : ℕ). x < 256) (λ x e. ltb-true x 256 e) listing.script refl)
+    (all_of_facts (λ (x : ℕ). ltb x 256) (λ (x : ℕ). x < 256) (λ x e. ltb-true x 256 e) listing.script refl)

@@ -15,7 +15,7 @@ use Rattle.model.specs.Slot.{as_byte, arriving}
 use Rattle.model.specs.Lists.{Step, deliveries, arrivals_of, requests_of, request_at, due_to, due_at, due_to_all}
 use Rattle.model.specs.Demand.{FixedDelay}
 use Rattle.model.proofs.basics.AllOf.{all_append}
-use Rattle.model.proofs.basics.Present.{one, present, present-take, present-behind-none}
+use Rattle.model.proofs.basics.Present.{one, present, present_take, present_behind_none}
 
 -- A property of what may be there.
 abbrev pub IfAny : {A : Type 0} → (A → Type 0) → Option A → Type 0
@@ -125,7 +125,7 @@ deliveries-few s slots fixed =
     omega (
       arith,
       ap present fixed.delay,
-      present-take (length slots) (replicate (lookahead s) none ++ due_to_all slots),
-      present-behind-none (lookahead s) (due_to_all slots),
+      present_take (length slots) (replicate (lookahead s) none ++ due_to_all slots),
+      present_behind_none (lookahead s) (due_to_all slots),
       due_present slots (due_at slots) (λ t e. ap (due_to slots t) e),
     )

@@ -8,7 +8,7 @@ use Rattle.model.specs.Sizes.{Design}
 use Rattle.model.specs.State.{State}
 use Rattle.model.specs.Slot.{Call, arrival_full, request_drops, Reply, Answer, slot}
 use Rattle.model.specs.Lists.{Step, run}
-use Rattle.model.proofs.one_slot.Accepted.{RefusedOrAccepted, was-refused, was_accepted, outcome}
+use Rattle.model.proofs.one_slot.Accepted.{RefusedOrAccepted, was_refused, was_accepted, outcome}
 
 -- 0 or this number.
 pub data ZeroOr (n : ℕ) : ℕ → Type 0 where
@@ -25,7 +25,7 @@ told-when false n = is_zero
 
 slot-halves : (design : Design) (x : State) (store : List ℕ) (call : Call) (a : Answer)
     → RefusedOrAccepted design x store call a → HalfNumbers a.reply
-slot-halves design x store call a (was-refused n e) = record { arrival_5 = is_zero; request_7 = is_zero }
+slot-halves design x store call a (was_refused n e) = record { arrival_5 = is_zero; request_7 = is_zero }
 slot-halves design x store call a (was_accepted f) = record {
   arrival_5 = told-when (arrival_full x call.arrival call.request) 5;
   request_7 = told-when (request_drops x call) 7;

@@ -14,7 +14,7 @@ use Rattle.model.specs.State.{Byte, fresh}
 use Rattle.model.specs.Slot.{Reply}
 use Rattle.model.specs.Lists.{Step, accepted}
 use Rattle.model.specs.Demand.{NoMiss, ListMeets}
-use Rattle.model.proofs.basics.Tests.{by-test}
+use Rattle.model.proofs.basics.Tests.{by_test}
 use Rattle.model.proofs.basics.AllOf.{all_append}
 use Rattle.model.proofs.Demand.{every_list}
 use Rattle.script_commands.specs.Commands as of
@@ -28,7 +28,7 @@ use Rattle.script_text.proofs.Bound.{start_low, sizes-accepted}
 
 -- A line that is none of these refusals, in whatever slot.
 pub record NoneOfThese (line : Line) : Type 0 where
-  pub not_3 : (t : ℕ) → line ≡ refusal t 3 → ⊥
+  pub not-3 : (t : ℕ) → line ≡ refusal t 3 → ⊥
   pub not-8 : (t : ℕ) → line ≡ refusal t 8 → ⊥
   pub not_9 : (t : ℕ) → line ≡ refusal t 9 → ⊥
   pub not_10 : (t : ℕ) → line ≡ refusal t 10 → ⊥
@@ -44,7 +44,7 @@ refused_with (fault n offset) = 0
 by_refused_with : (line : Line) → (refused_with line ≡ 3 → ⊥) → (refused_with line ≡ 8 → ⊥) → (refused_with line ≡ 9 → ⊥)
     → (refused_with line ≡ 10 → ⊥) → NoneOfThese line
 by_refused_with line three eight nine ten = record {
-  not_3 = λ t e. three (ap refused_with e);
+  not-3 = λ t e. three (ap refused_with e);
   not-8 = λ t e. eight (ap refused_with e);
   not_9 = λ t e. nine (ap refused_with e);
   not_10 = λ t e. ten (ap refused_with e);
@@ -92,7 +92,7 @@ running_lines_lem t r halves =
 
 answer-lines : (t : ℕ) (r : Reply) → HalfNumbers r → (r.number ≡ 3 → ⊥) → (r.number ≡ 8 → ⊥)
     → (r.number ≡ 9 → ⊥) → (r.number ≡ 10 → ⊥) → All NoneOfThese (answer_lines t r)
-answer-lines t r halves three eight nine ten = by-test (eqb r.number 0)
+answer-lines t r halves three eight nine ten = by_test (eqb r.number 0)
     (λ e. rw e (running_lines_lem t r halves))
     (λ e. rw e (by_refused_with (refusal t r.number) three eight nine ten, tt))
 
@@ -121,12 +121,12 @@ started_lines_lem (suc n) cs store e = (
 )
 
 judged_lines_lem : (s : Script) (store : List ℕ) → All NoneOfThese (judged_lines s store)
-judged_lines_lem s store = by-test (eqb s.number 0)
+judged_lines_lem s store = by_test (eqb s.number 0)
     (λ t. rw t (started_lines_lem (start_number (sizes_of s.commands) store) s.commands store refl))
     (λ t. rw t (low_number (fault s.number s.offset) (omega arith), tt))
 
 pub never_printed : (bytes store : List ℕ) → All NoneOfThese (script_lines bytes store)
 unfolding script_lines
-never_printed bytes store = by-test (ltb most_bytes (length bytes))
+never_printed bytes store = by_test (ltb most_bytes (length bytes))
     (λ t. rw t (low_number (fault 15 most_bytes) (omega arith), tt))
     (λ t. rw t (judged_lines_lem (judge bytes) store))

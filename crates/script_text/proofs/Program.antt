@@ -11,7 +11,7 @@ use lib.ListN.{length, take, replicate, length-take}
 use lib.Seq.{take_all}
 use borrow.Author.Tests.{ltb-true, ltb-false, lt-ltb}
 use Rattle.model.specs.Basics.{choose}
-use Rattle.model.proofs.basics.Tests.{by-test}
+use Rattle.model.proofs.basics.Tests.{by_test}
 use Rattle.script_commands.specs.Scripts.{judge}
 use Rattle.script_lines.specs.Lines.{fault, text}
 use Rattle.script_text.specs.Run.{most_bytes, judged_lines, script_lines, store_lent, program_text, output_bound}
@@ -26,7 +26,7 @@ long_lines bytes store h =
 -- Any number of first bytes over 65,536 tells as much as the whole input.
 pub longer_input_prints_alike : (n : ℕ) (bytes store : List ℕ) → most_bytes < n
     → script_lines (take n bytes) store ≡ script_lines bytes store
-longer_input_prints_alike n bytes store over = by-test (ltb n (length bytes))
+longer_input_prints_alike n bytes store over = by_test (ltb n (length bytes))
     (λ t.
     long_lines (take n bytes) store (omega (arith, over, length-take n bytes, ltb-true n (length bytes) t))
     ∙ sym (long_lines bytes store (omega (arith, over, ltb-true n (length bytes) t))))

@@ -18,11 +18,11 @@ use Rattle.model.specs.Slot.{request_unknown, nothing_to_take, leaves_uncovered,
 use Rattle.model.specs.Slot.{request_drops, halves_taken, refusals, refusal, Reply, Answer, slot}
 use Rattle.model.specs.Lists.{Step, step_of, run, accepted}
 use Rattle.model.proofs.basics.AllOf.{◌also◌}
-use Rattle.model.proofs.basics.Tests.{by-option, by-test, true-not-false}
-use Rattle.model.proofs.basics.FirstRefusal.{first-has, when-le}
+use Rattle.model.proofs.basics.Tests.{by_option, by_test, true_not_false}
+use Rattle.model.proofs.basics.FirstRefusal.{first_has, when-le}
 use Rattle.model.proofs.basics.Present.{one, present}
-use Rattle.model.proofs.meaning.Place.{slots-to-refill-within}
-use Rattle.model.proofs.one_slot.Accepted.{Accepted, RefusedOrAccepted, was-refused, was_accepted, outcome}
+use Rattle.model.proofs.meaning.Place.{slots_to_refill_within}
+use Rattle.model.proofs.one_slot.Accepted.{Accepted, RefusedOrAccepted, was_refused, was_accepted, outcome}
 use Rattle.model.proofs.one_slot.Kept.{read_taken, rules-written}
 use Rattle.model.proofs.one_slot.Stored.{arrivals}
 use Rattle.script_text.proofs.Append.{refused-test}
@@ -50,8 +50,8 @@ told_of (step ∷ steps) = told_by step.reply + told_of steps
 
 -- None of the refusals that an idle slot could have.
 pub record NoneOfIdle (n : ℕ) : Type 0 where
-  pub not_2 : n ≡ 2 → ⊥
-  pub not_3 : n ≡ 3 → ⊥
+  pub not-2 : n ≡ 2 → ⊥
+  pub not-3 : n ≡ 3 → ⊥
   pub not-8 : n ≡ 8 → ⊥
   pub not_10 : n ≡ 10 → ⊥
 
@@ -71,7 +71,7 @@ module _ (design : Design) (x : State) (store : List ℕ) (call : Call) where
 
   of_half : (t : Bool) (n : ℕ) → n ≤ 10 → (call.arrival ≡ none → call.request ≡ none → t ≡ false)
       → NumberSays call (when t n)
-  of_half true n l f = record { low = l; not_idle = λ a r other. absurd (true-not-false true refl (f a r)) }
+  of_half true n l f = record { low = l; not_idle = λ a r other. absurd (true_not_false true refl (f a r)) }
   of_half false n l f = nothing-judged
 
   -- What is left of the call: no arrival where none came.
@@ -83,9 +83,9 @@ module _ (design : Design) (x : State) (store : List ℕ) (call : Call) where
 
   number_says : NumberSays call (refusal design x store call)
   number_says =
-      first-has (NumberSays call) (refusals design x store call) nothing-judged (
-      of_idle (not (keeps design x)) 3 (omega arith) (λ other. other.not_3 refl)
-      also of_idle (ltb (length store) (store_bytes x.sizes)) 2 (omega arith) (λ other. other.not_2 refl)
+      first_has (NumberSays call) (refusals design x store call) nothing-judged (
+      of_idle (not (keeps design x)) 3 (omega arith) (λ other. other.not-3 refl)
+      also of_idle (ltb (length store) (store_bytes x.sizes)) 2 (omega arith) (λ other. other.not-2 refl)
       also of_half (arrival_unknown x call.arrival) 4 (omega arith) (λ a r. ap (arrival_unknown x) a)
       also of_half (request_unknown x call.request) 6 (omega arith) (λ a r. ap (request_unknown x) r)
       also of_idle (leaves_uncovered (oldest_cell x.cells) x) 8 (omega arith) (λ other. other.not-8 refl)
@@ -97,8 +97,8 @@ module _ (design : Design) (x : State) (store : List ℕ) (call : Call) where
 
   stopped_has_half : (n : ℕ) → refusal design x store call ≡ suc n → NoneOfIdle (suc n) → 1 ≤ halves call
   stopped_has_half n e other =
-      by-option call.arrival
-      (λ no_arrival. by-option call.request
+      by_option call.arrival
+      (λ no_arrival. by_option call.request
       (λ no_request. absurd (omega (
         arith,
         e,
@@ -138,7 +138,7 @@ ArrivalBelow values call = IfAny (λ (y : Byte). y.value < values) call.arrival
 
 left_below : (values : ℕ) (x : State) (call : Call) → ArrivalBelow values call
     → ArrivalBelow values (halves_taken x call)
-left_below values x call h = by-test (arrival_full x call.arrival call.request)
+left_below values x call h = by_test (arrival_full x call.arrival call.request)
     (λ t. rw t tt)
     (λ t. rw t h)
 
@@ -148,17 +148,17 @@ read_says : (design : Design) (x : State) (store : List ℕ) (call : Call) → 1
     → Accepted design x store call
     → IfAny (λ (q : ℕ). q < x.sizes.Q) (queue_to_read (wrote x call))
     × (slots_to_refill (wrote x call) ≤ design.cell_count x.sizes)
-read_says design x store call cells-ok f =
-    let rules = rules-written design x store call cells-ok f.judged in (
+read_says design x store call cells_ok f =
+    let rules = rules-written design x store call cells_ok f.judged in (
       if_any (λ (q : ℕ). q < x.sizes.Q) (queue_to_read (wrote x call))
           (λ q e. (read_taken (design.cell_count x.sizes) (wrote x call) rules q e).0),
-      omega (arith, slots-to-refill-within (wrote x call), rules.cells_long),
+      omega (arith, slots_to_refill_within (wrote x call), rules.cells_long),
     )
 
 slot-says : (design : Design) (values : ℕ) (x : State) (store : List ℕ) (call : Call) (a : Answer)
     → 1 ≤ design.cell_count x.sizes → RefusedOrAccepted design x store call a → ArrivalBelow values call
     → SlotCharged design values x (step_of x store call a)
-slot-says design values x store call a cells-ok (was-refused n e) h = record {
+slot-says design values x store call a cells_ok (was_refused n e) h = record {
   in_range = record {
     numbers = record {
       number_low = omega (arith, e, (number_says design x store call).low);
@@ -170,8 +170,8 @@ slot-says design values x store call a cells-ok (was-refused n e) h = record {
   };
   sizes-stay = refl;
 }
-slot-says design values x store call a cells-ok (was_accepted f) h =
-    let read = read_says design x store (halves_taken x call) cells-ok f in record {
+slot-says design values x store call a cells_ok (was_accepted f) h =
+    let read = read_says design x store (halves_taken x call) cells_ok f in record {
       in_range = record {
         numbers = record {
           number_low = omega arith;
@@ -179,7 +179,7 @@ slot-says design values x store call a cells-ok (was_accepted f) h =
           request_low = when-le 10 (request_drops x call) 7 (omega arith);
         };
         takes = record {
-          queue_below = if_any (λ (q : ℕ). q < x.sizes.Q) (halves_taken x call).request f.judged.request-ok;
+          queue_below = if_any (λ (q : ℕ). q < x.sizes.Q) (halves_taken x call).request f.judged.request_ok;
           value_below = left_below values x call h;
         };
         reads = record { queue_below = read.0; left_within = read.1 };
@@ -190,13 +190,13 @@ slot-says design values x store call a cells-ok (was_accepted f) h =
 pub run-says : (design : Design) (values : ℕ) (s : Sizes) (x : State) (store : List ℕ) (calls : List Call)
     → 1 ≤ design.cell_count s → x.sizes ≡ s → All (ArrivalBelow values) calls
     → All (InRange s.Q values (design.cell_count s)) (run design x store calls)
-run-says design values s x store [] cells-ok e h = tt
-run-says design values s x store (call ∷ calls) cells-ok e h =
-    let here : 1 ≤ design.cell_count x.sizes = subst (λ (z : Sizes). 1 ≤ design.cell_count z) (sym e) cells-ok in
+run-says design values s x store [] cells_ok e h = tt
+run-says design values s x store (call ∷ calls) cells_ok e h =
+    let here : 1 ≤ design.cell_count x.sizes = subst (λ (z : Sizes). 1 ≤ design.cell_count z) (sym e) cells_ok in
     let a : Answer = slot design x store call in
     let says = slot-says design values x store call a here (outcome design x store call) h.0 in (
       subst (λ (z : Sizes). InRange z.Q values (design.cell_count z) (step_of x store call a)) e says.in_range,
-      run-says design values s a.state a.store calls cells-ok (says.sizes-stay ∙ e) h.1,
+      run-says design values s a.state a.store calls cells_ok (says.sizes-stay ∙ e) h.1,
     )
 
 -- A half pays for its own line or for being taken: it is dropped with a number where a test holds, and else taken.
@@ -221,7 +221,7 @@ slot-pays : (design : Design) (x : State) (store : List ℕ) (call : Call) (a : 
     → RefusedOrAccepted design x store call a
     → NoneOfIdle a.reply.number → (steps : List Step)
     → charges_of (step_of x store call a ∷ steps) ≤ halves call + charges_of steps
-slot-pays design x store call a (was-refused n e) other steps =
+slot-pays design x store call a (was_refused n e) other steps =
     rw (refused-test n) (omega (arith, stopped_has_half design x store call n e other))
 slot-pays design x store call a (was_accepted f) other steps =
     omega (

@@ -7,7 +7,7 @@ use mathlib.Core.Option.{Option, some, none}
 use Prim.Native.Nat.{ℕ, ◌+◌, ◌≤◌, ◌<◌}
 use native.Mathlib.Omega.{arith}
 use lib.ListN.{length, drop, get_or, length-drop}
-use Rattle.model.proofs.basics.Tests.{by-option}
+use Rattle.model.proofs.basics.Tests.{by_option}
 use Rattle.script_commands.specs.Commands.{Kind, row, kind_of, widths}
 use Rattle.script_commands.specs.Scripts.{refused, taken, read_code, read_command}
 use Rattle.script_commands.specs.Values.{command_in}
@@ -43,7 +43,7 @@ module _ (rest : List ℕ) (first : Bool) where
     -- A length above 0 is that of a known kind.
     known : {A : Type 0} → (n ≡ 0 → ⊥)
         → ((k : Kind) → kind_of (get_or rest 0 0) ≡ some k → n ≡ 1 + widths (row k).operands → A) → A
-    known above at-known = by-option (kind_of (get_or rest 0 0))
+    known above at-known = by_option (kind_of (get_or rest 0 0))
         (λ e. absurd (above (is-length ∙ rw e)))
         (λ k e. at-known k e (is-length ∙ rw e))
 

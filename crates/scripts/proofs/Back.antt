@@ -9,7 +9,7 @@ use lib.ListN.{length, take, drop}
 use lib.Seq.{take-append_seam, take-append-add, drop-append_seam}
 use Rattle.model.specs.Basics.{All, choose}
 use Rattle.model.proofs.basics.FirstRefusal.{when-zero}
-use Rattle.model.proofs.basics.Tests.{true-not-false}
+use Rattle.model.proofs.basics.Tests.{true_not_false}
 use Rattle.script_commands.specs.declared.Command as code
 use Rattle.script_commands.specs.Commands.{Command, is_end, OperandsFit}
 use Rattle.script_commands.specs.Scripts.{taken, out_of_place, read_command, Script, judge}
@@ -104,10 +104,10 @@ script-read first (d ∷ []) (ends in_place last) fits bytes e (c ∷ [])
     ap (λ (b : Command). b ∷ []) (command-read first d bytes [] r c n e fits.0 in_place reads is_taken)
 script-read first (d ∷ []) (ends in_place last) fits bytes e (c ∷ cs)
     (next_read {r = r} {n = n} reads is_taken on more) =
-    absurd (true-not-false _ last (kind_read first d bytes [] r c n e fits.0 in_place reads is_taken false on))
+    absurd (true_not_false _ last (kind_read first d bytes [] r c n e fits.0 in_place reads is_taken false on))
 script-read first (d ∷ ds) (goes_on in_place on order) fits bytes e (c ∷ [])
     (end_read {r = r} {n = n} reads is_taken is-end) =
-    absurd (true-not-false _ (kind_read first d bytes _ r c n e fits.0 in_place reads is_taken true is-end) on)
+    absurd (true_not_false _ (kind_read first d bytes _ r c n e fits.0 in_place reads is_taken true is-end) on)
 script-read first (d ∷ ds) (goes_on in_place on order) fits bytes e (c ∷ cs)
     (next_read {r = r} {n = n} reads is_taken goes more) =
     let left = rest_left first d bytes (script_bytes ds) r c n e fits.0 in_place reads is_taken in

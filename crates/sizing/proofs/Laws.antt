@@ -9,16 +9,16 @@ use lib.Dec.{leb}
 use borrow.Author.Tests.{leb-true, le-leb}
 use Rattle.model.specs.Basics.{between, all_true}
 use Rattle.model.specs.Sizes.{sizes, paper_limits, accepts, cycle_time, block_for}
-use Rattle.model.proofs.basics.Tests.{by-test, between-facts, between-holds, and_both}
-use Rattle.model.proofs.basics.AllOf.{all-true-at}
-use Rattle.model.proofs.basics.Limits.{Within, within-limits}
+use Rattle.model.proofs.basics.Tests.{by_test, between-facts, between-holds, and_both}
+use Rattle.model.proofs.basics.AllOf.{all_true_at}
+use Rattle.model.proofs.basics.Limits.{Within, within_limits}
 use Rattle.sizing.specs.declared.Sizing.TheVariants.{Block, NoBlock}
 use Rattle.sizing.specs.declared.Derived.TheVariants.{Needs, NoSizes}
 use Rattle.sizing.specs.Says.{SizingSays, DerivedSays, memory_of}
 
 pub accepts-not : (q b k : ℕ) → (Within paper_limits (sizes q b k) → ⊥) → accepts paper_limits (sizes q b k) ≡ false
 accepts-not q b k h =
-    by-test (accepts paper_limits (sizes q b k)) (λ t. absurd (h (within-limits paper_limits (sizes q b k) t))) (λ t. t)
+    by_test (accepts paper_limits (sizes q b k)) (λ t. absurd (h (within_limits paper_limits (sizes q b k) t))) (λ t. t)
 
 -- Within the first six limits the seventh decides.
 pub accepts-span : (q b k : ℕ) → 1 ≤ q → q ≤ 64 → 1 ≤ b → b ≤ 128 → 1 ≤ k → k ≤ 255
@@ -42,17 +42,17 @@ sizable rate grade = all_true (sizing_rules rate grade)
 
 sizable_facts : (rate grade : ℕ) → sizable rate grade ≡ true → Sizable rate grade
 sizable_facts rate grade e = record {
-  rate_low = (between-facts 1 rate 100 (all-true-at (sizing_rules rate grade) 0 e)).0;
-  rate_high = (between-facts 1 rate 100 (all-true-at (sizing_rules rate grade) 0 e)).1;
-  grade_high = leb-true grade 15 (all-true-at (sizing_rules rate grade) 1 e);
-  block_high = leb-true (block_for rate grade) 128 (all-true-at (sizing_rules rate grade) 2 e);
+  rate_low = (between-facts 1 rate 100 (all_true_at (sizing_rules rate grade) 0 e)).0;
+  rate_high = (between-facts 1 rate 100 (all_true_at (sizing_rules rate grade) 0 e)).1;
+  grade_high = leb-true grade 15 (all_true_at (sizing_rules rate grade) 1 e);
+  block_high = leb-true (block_for rate grade) 128 (all_true_at (sizing_rules rate grade) 2 e);
 }
 
 pub no_block : (rate grade : ℕ) → (Sizable rate grade → ⊥) → SizingSays rate grade NoBlock
 no_block rate grade h = record { number_is = rw out; block_is_lem = rw out }
   where
     out : sizable rate grade ≡ false
-    out = by-test (sizable rate grade) (λ t. absurd (h (sizable_facts rate grade t))) (λ t. t)
+    out = by_test (sizable rate grade) (λ t. absurd (h (sizable_facts rate grade t))) (λ t. t)
 
 pub a_block : (rate grade b : ℕ) → 1 ≤ rate → rate ≤ 100 → grade ≤ 15 → b ≤ 128 → b ≡ block_for rate grade
     → SizingSays rate grade (Block b)

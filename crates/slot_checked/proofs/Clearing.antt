@@ -6,7 +6,7 @@ use Prim.Native.Nat.{ℕ}
 use lib.ListN.{length}
 use Rattle.model.specs.Sizes.{paper_limits, accepts, paper}
 use Rattle.model.specs.State.{State, keeps}
-use Rattle.model.proofs.basics.Tests.{true-not-false}
+use Rattle.model.proofs.basics.Tests.{true_not_false}
 use Rattle.model.proofs.one_slot.Rules.{keeps-facts}
 use Rattle.layout.specs.declared.Regs.{Regs}
 use Rattle.layout.specs.Counts.{ByQueue, by_queue}
@@ -27,12 +27,12 @@ module _ {x : State} {r : RulesJudged} (says : RulesSays x r) {before : ByQueue}
   pub counts_taken : r.kept ≡ true → CountsSay x x before (by_queue r.tails r.heads r.owing)
   counts_taken t = record {
     counted = λ kept. says.counted t;
-    as_given = λ broken. absurd (true-not-false (keeps paper x) (sym says.kept_is ∙ t) broken);
+    as_given = λ broken. absurd (true_not_false (keeps paper x) (sym says.kept_is ∙ t) broken);
   }
 
   pub counts_left_lem : r.kept ≡ false → CountsSay x x before before
   counts_left_lem f = record {
-    counted = λ kept. absurd (true-not-false (keeps paper x) kept (sym says.kept_is ∙ f));
+    counted = λ kept. absurd (true_not_false (keeps paper x) kept (sym says.kept_is ∙ f));
     as_given = λ broken. refl;
   }
 
@@ -91,7 +91,7 @@ pub counts_ready : {x : State} {bytes n : ℕ} → JudgeStateSays x bytes n → 
     → CountsSay x (state_in regs m) before after
 counts_ready {x} says z ready = record {
   counted = λ kept. ready.tallies;
-  as_given = λ broken. absurd (true-not-false (keeps paper x) (says.passed z).0 broken);
+  as_given = λ broken. absurd (true_not_false (keeps paper x) (says.passed z).0 broken);
 }
 
 pub leaves_ready : (regs : Regs) (m : Arrays) (store : List ℕ) {n : ℕ} → n ≡ judged_number regs m store → n ≡ 0

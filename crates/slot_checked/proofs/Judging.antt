@@ -11,8 +11,8 @@ use Rattle.model.specs.Basics.{when, first_refusal}
 use Rattle.model.specs.Sizes.{Sizes, paper_limits, accepts, paper, store_bytes}
 use Rattle.model.specs.State.{State, keeps}
 use Rattle.model.specs.Slot.{Call, refuse, slot, refusal}
-use Rattle.model.proofs.basics.Tests.{by-test}
-use Rattle.model.proofs.basics.Limits.{row_within, store-within}
+use Rattle.model.proofs.basics.Tests.{by_test}
+use Rattle.model.proofs.basics.Limits.{row_within, store_within}
 use Rattle.layout.specs.declared.Regs.{Regs}
 use Rattle.layout.specs.Views.{sizes_in}
 use Rattle.layout.proofs.Ranges.{InLimits, in_limits}
@@ -55,8 +55,8 @@ module _ (x : State) (bytes : ℕ) where
   pub number_says : {kept : Bool} → kept ≡ keeps paper x → {n : ℕ} → n ≡ state_number kept x.sizes bytes
       → JudgeStateSays x bytes n
   number_says {kept} e {n} en =
-      by-test (keeps paper x)
-      (λ t. by-test (ltb bytes need)
+      by_test (keeps paper x)
+      (λ t. by_test (ltb bytes need)
       (λ u. answered (number_kept kept x.sizes bytes (e ∙ t) u) (judged_short t (ltb-true bytes need u)))
       (λ u. answered (number_kept kept x.sizes bytes (e ∙ t) u) (judged_clear t (ltb-false bytes need u))))
       (λ t. answered (number_broken kept x.sizes bytes (e ∙ t)) (judged_broken t))
@@ -75,7 +75,7 @@ judged_state x bytes e = number_says x bytes refl e
 -- The bytes of store that accepted sizes need are a small number.
 pub need_small : (regs : Regs) → accepts paper_limits (sizes_in regs) ≡ true
     → (regs.queues * regs.depth ≤ 64 * 255) × (regs.queues * regs.depth * regs.block ≤ 64 * 255 * 128)
-need_small regs e = (row_within paper_limits (sizes_in regs) limits, store-within paper_limits (sizes_in regs) limits)
+need_small regs e = (row_within paper_limits (sizes_in regs) limits, store_within paper_limits (sizes_in regs) limits)
   where
     limits : InLimits regs
     limits = in_limits regs e

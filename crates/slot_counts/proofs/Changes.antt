@@ -10,7 +10,7 @@ use lib.Dec.{eqb}
 use lib.ListN.{length, set, get_or, length-set}
 use borrow.Author.Tests.{eqb-true}
 use Rattle.model.specs.State.{Byte, count_of}
-use Rattle.model.proofs.basics.Tests.{by-test}
+use Rattle.model.proofs.basics.Tests.{by_test}
 use Rattle.layout.specs.Lengths.{head_places, queue_places}
 use Rattle.layout.specs.Entries.{counts_in}
 use Rattle.layout.specs.Counts.{CountsAre}
@@ -26,7 +26,7 @@ module _ (change : ℕ → ℕ → ℕ) (by-nothing : (m : ℕ) → change m 0 �
     long = length-set counts q new ∙ long;
     count_is = λ p.
         ap (λ (f : ℕ → ℕ). f p) (counts_stored counts q new (omega (arith, long)))
-        ∙ by-test (eqb q p)
+        ∙ by_test (eqb q p)
         (λ t. rw t (ap (λ (i : ℕ). change (get_or counts i 0) n) (eqb-true q p t)))
         (λ t. rw t (omega (arith, by-nothing (get_or counts p 0))));
   }
@@ -55,7 +55,7 @@ count_at counts q n h = h
 
 -- 2. The arriving byte adds one at its queue.
 count_one : (y : Byte) (q : ℕ) → only y.queue 1 q ≡ count_of q (y ∷ [])
-count_one y q = by-test (eqb y.queue q) (λ t. rw t) (λ t. rw t)
+count_one y q = by_test (eqb y.queue q) (λ t. rw t) (λ t. rw t)
 
 module _ (counts : List ℕ) (long : length counts ≡ queue_places) where
   pub no_arrival : (arrival : Option Byte) → arrival ≡ none

@@ -14,13 +14,13 @@ use Rattle.model.specs.State.{Byte, State, count_of, owes, ring_of, tail_bytes}
 use Rattle.model.specs.Slot.{Call, arriving, is_owed, oldest_cell, youngest_cell, tail_left, tail_written, carried_out}
 use Rattle.model.specs.Slot.{swaps, early_arrival, late_arrival, block_at, head_read, joined, asked, wrote, wrote_store}
 use Rattle.model.specs.Slot.{queue_to_write, queue_to_read}
-use Rattle.model.proofs.basics.Tests.{by-test, some_inj}
-use Rattle.model.proofs.basics.Bytes.{count-append, count-without, count-refilled}
-use Rattle.model.proofs.basics.Cells.{owed-append}
-use Rattle.model.proofs.one_slot.StepsKeepRules.{owed-oldest, count-head-without, youngest-owed, youngest-held}
-use Rattle.model.proofs.one_slot.Swap.{swap-facts, early-is-none, early_is, late_is, late-is-none}
+use Rattle.model.proofs.basics.Tests.{by_test, some_inj}
+use Rattle.model.proofs.basics.Bytes.{count_append, count_without, count_refilled}
+use Rattle.model.proofs.basics.Cells.{owed_append}
+use Rattle.model.proofs.one_slot.StepsKeepRules.{owed_oldest, count_head_without, youngest_owed, youngest_held}
+use Rattle.model.proofs.one_slot.Swap.{swap_facts, early_is_none, early_is, late_is, late_is_none}
 use Rattle.model.proofs.one_slot.Accepted.{Judged}
-use Rattle.model.proofs.one_slot.Kept.{block-whole}
+use Rattle.model.proofs.one_slot.Kept.{block_whole}
 use Rattle.layout.specs.Entries.{counts_in}
 use Rattle.layout.specs.Counts.{ByQueue, Tally, TallyOwed, Tallies}
 use Rattle.lookahead.specs.Says.{spent}
@@ -34,31 +34,31 @@ module _ (y : State) (owing : Bool) where
   count_left none f q = refl
   count_left (some p) f q =
       rw (f p refl)
-      (by-test (is_owed y p)
+      (by_test (is_owed y p)
       (λ t. rw t (omega arith))
-      (λ t. rw t (count-without 1 p q y.tail)))
+      (λ t. rw t (count_without 1 p q y.tail)))
 
   owes-new : (request : Option ℕ) → ((p : ℕ) → request ≡ some p → owing ≡ is_owed y p)
       → (q : ℕ) → owes q (youngest_cell y request) ≡ owes q (new_cell owing request)
-  owes-new none f q = by-test owing (λ t. rw t) (λ t. rw t)
+  owes-new none f q = by_test owing (λ t. rw t) (λ t. rw t)
   owes-new (some p) f q =
       rw (f p refl)
-      (by-test (is_owed y p)
-      (λ t. youngest-owed y p q t ∙ ap (λ (o : Bool). owes q (new_cell o (some p))) (sym t))
-      (λ t. youngest-held y p q t ∙ ap (λ (o : Bool). owes q (new_cell o (some p))) (sym t)))
+      (by_test (is_owed y p)
+      (λ t. youngest_owed y p q t ∙ ap (λ (o : Bool). owes q (new_cell o (some p))) (sym t))
+      (λ t. youngest_held y p q t ∙ ap (λ (o : Bool). owes q (new_cell o (some p))) (sym t)))
 
 -- 4. The write and the read.
 count_written : (y : State) (o : Option ℕ) (q : ℕ)
     → less_block y.sizes.b o (tail_bytes y) q ≡ count_of q (tail_written o y)
 count_written y none q = refl
-count_written y (some p) q = sym (count-without y.sizes.b p q y.tail)
+count_written y (some p) q = sym (count_without y.sizes.b p q y.tail)
 
 count_read : (z : State) (store : List ℕ) (o : Option ℕ)
     → ((p : ℕ) → o ≡ some p → length (block_at z.sizes store p (ring_of z.rings p).first) ≡ z.sizes.b)
     → (q : ℕ) → with_block z.sizes.b o (λ p. count_of p z.head) q ≡ count_of q (head_read o z store)
 count_read z store none f q = refl
 count_read z store (some p) f q =
-    sym (count-refilled p q z.head (block_at z.sizes store p (ring_of z.rings p).first)
+    sym (count_refilled p q z.head (block_at z.sizes store p (ring_of z.rings p).first)
     ∙ rw (f p refl))
 
 -- A byte that joins after the request counts as one that joins before it, where the request finds another.
@@ -66,9 +66,9 @@ joins_late : (owing : Bool) (request : Option ℕ) (f g : ℕ → ℕ) → ((p :
     → (q : ℕ) → less_taken owing request (λ p. f p + g p) q ≡ less_taken owing request f q + g q
 joins_late owing none f g there q = refl
 joins_late owing (some p) f g there q =
-    by-test owing
+    by_test owing
     (λ u. rw u (omega arith))
-    (λ u. by-test (eqb p q)
+    (λ u. by_test (eqb p q)
     (λ t. rw (u, t) (omega (arith, subst (λ (i : ℕ). 1 ≤ f i) (eqb-true p q t) (there p refl))))
     (λ t. rw (u, t) (omega arith)))
 
@@ -77,7 +77,7 @@ pub tails_found : (x : State) (call : Call) {is_owed' : Bool}
     → ((q : ℕ) → call.request ≡ some q → is_owed' ≡ is_owed (joined x call) q)
     → {tails : ℕ → ℕ} → ((q : ℕ) → tails q ≡ tail_bytes x q) → tails_asked is_owed' call tails ≡ tail_bytes (asked x call)
 tails_found x call {is_owed'} owed_is {tails} same =
-    fun_ext (λ q. by-test (swaps x call.arrival call.request)
+    fun_ext (λ q. by_test (swaps x call.arrival call.request)
     (λ t. joins_late is_owed' call.request tails (λ p. count_of p (arriving call.arrival)) (byte-there t) q
     ∙ ap (λ (f : ℕ → ℕ). less_taken is_owed' call.request f q + count_of q (arriving call.arrival))
     (fun_ext (λ p. nothing-early t p ∙ joined-count p))
@@ -87,28 +87,28 @@ tails_found x call {is_owed'} owed_is {tails} same =
     (λ t. ap (λ (a : Option Byte). less_taken is_owed' call.request (arrival_counted a tails) q)
     (sym (early_is x call t))
     ∙ ap (λ (f : ℕ → ℕ). less_taken is_owed' call.request f q) (fun_ext joined-count)
-    ∙ omega (arith, asked-count q, ap (λ (a : Option Byte). count_of q (arriving a)) (late-is-none x call t))))
+    ∙ omega (arith, asked-count q, ap (λ (a : Option Byte). count_of q (arriving a)) (late_is_none x call t))))
   where
     joined-count : (q : ℕ) → arrival_counted (early_arrival x call) tails q ≡ tail_bytes (joined x call) q
-    joined-count q = omega (arith, same q, count-append q x.tail (arriving (early_arrival x call)))
+    joined-count q = omega (arith, same q, count_append q x.tail (arriving (early_arrival x call)))
 
     asked-count : (q : ℕ) → tail_bytes (asked x call) q
         ≡ less_taken is_owed' call.request (tail_bytes (joined x call)) q + count_of q (arriving (late_arrival x call))
     asked-count q =
         omega (
           arith,
-          count-append q (tail_left (joined x call) call.request) (arriving (late_arrival x call)),
+          count_append q (tail_left (joined x call) call.request) (arriving (late_arrival x call)),
           count_left (joined x call) is_owed' call.request owed_is q,
         )
 
     -- In a slot that swaps nothing joins early, and the request finds an old byte.
     nothing-early : swaps x call.arrival call.request ≡ true → (q : ℕ)
         → tails q ≡ arrival_counted (early_arrival x call) tails q
-    nothing-early t q = omega (arith, ap (λ (a : Option Byte). count_of q (arriving a)) (early-is-none x call t))
+    nothing-early t q = omega (arith, ap (λ (a : Option Byte). count_of q (arriving a)) (early_is_none x call t))
 
     byte-there : swaps x call.arrival call.request ≡ true → (p : ℕ) → call.request ≡ some p → 1 ≤ tails p
     byte-there t p e =
-        let s = swap-facts x call t in
+        let s = swap_facts x call t in
         omega (
           arith,
           same p,
@@ -137,7 +137,7 @@ module _ (x : State) (store : List ℕ) (call : Call) (judged : Judged paper x s
       fun_ext (λ q. omega (
         arith,
         t.heads_are.count_is q,
-        count-head-without (oldest_cell x.cells) x.head q,
+        count_head_without (oldest_cell x.cells) x.head q,
       ))
 
   heads_kept : Tally counts'.heads (head_read (queue_to_read (wrote x call)) (wrote x call) (wrote_store x store call))
@@ -148,7 +148,7 @@ module _ (x : State) (store : List ℕ) (call : Call) (judged : Judged paper x s
         ∙ ap (λ (f : ℕ → ℕ). with_block x.sizes.b readQueue f q) heads_found
         ∙ ap (λ (o : Option ℕ). with_block x.sizes.b o (λ p. count_of p (wrote x call).head) q) read_is
         ∙ count_read (wrote x call) (wrote_store x store call) (queue_to_read (wrote x call))
-        (block-whole paper x store call (omega arith) judged) q;
+        (block_whole paper x store call (omega arith) judged) q;
   }
 
   owed_kept : TallyOwed counts'.owing (asked x call).cells
@@ -158,8 +158,8 @@ module _ (x : State) (store : List ℕ) (call : Call) (judged : Judged paper x s
       arith,
       says.owed_are.count_is q,
       t.owed_are.count_is q,
-      owed-oldest x.cells q,
-      owed-append q (drop 1 x.cells) (youngest_cell (joined x call) call.request ∷ []),
+      owed_oldest x.cells q,
+      owed_append q (drop 1 x.cells) (youngest_cell (joined x call) call.request ∷ []),
       owes-new (joined x call) is_owed' call.request owed_is q,
     );
   }

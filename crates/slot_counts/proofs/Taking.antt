@@ -7,7 +7,7 @@ use native.Mathlib.Omega.{arith}
 use Rattle.model.specs.Sizes.{paper}
 use Rattle.model.specs.State.{State, keeps}
 use Rattle.model.proofs.basics.Bytes.{below_holds}
-use Rattle.model.proofs.basics.Cells.{cells-below-holds}
+use Rattle.model.proofs.basics.Cells.{cells_below_holds}
 use Rattle.model.proofs.one_slot.Rules.{Keeps, keeps-facts}
 use Rattle.layout.specs.declared.Regs.{Regs}
 use Rattle.layout.specs.Lengths.{queue_places}
@@ -28,7 +28,7 @@ module _ (regs : Regs) (m : Arrays) where
     sizes-ok = v.sizes-ok;
     tail_known = below_holds regs.queues queue_places few x.tail v.within.tail_below;
     head_known = below_holds regs.queues queue_places few x.head v.within.head_below;
-    cells_known = cells-below-holds regs.queues queue_places few x.cells v.within.cells-below;
+    cells_known = cells_below_holds regs.queues queue_places few x.cells v.within.cells_below;
   }
     where
       x : State
@@ -38,7 +38,7 @@ module _ (regs : Regs) (m : Arrays) where
       v = keeps-facts paper (state_in regs m) kept
 
       few : regs.queues ≤ queue_places
-      few = (in_limits regs v.sizes-ok).q-high
+      few = (in_limits regs v.sizes-ok).q_high
 
   pub tallied : {counts : ByQueue} → TakeSays regs m.tail m.head m.cells counts
       → Tallies (state_in regs m) counts

@@ -16,13 +16,13 @@ use Rattle.model.specs.Slot.{Call, oldest_cell, head_without, delivery_of, deliv
 use Rattle.model.specs.Slot.{early_arrival, late_arrival}
 use Rattle.model.specs.Slot.{moves, tail_written, rings_written, store_written, queue_to_read, head_read, head_full}
 use Rattle.model.specs.Slot.{rings_read, joined, asked, wrote, wrote_store, refilled, carried_out}
-use Rattle.model.proofs.basics.Rings.{fewer-blocks}
+use Rattle.model.proofs.basics.Rings.{fewer_blocks}
 use Rattle.model.proofs.one_slot.Rules.{Rules}
 use Rattle.model.proofs.one_slot.Accepted.{Judged, Accepted, accepted-facts}
-use Rattle.model.proofs.one_slot.Kept.{write-taken, read_taken, rules-3, rules-written, same_length}
+use Rattle.model.proofs.one_slot.Kept.{write_taken, read_taken, rules-3, rules-written, same_length}
 use Rattle.model.proofs.one_slot.StepsKeepRules.{length-arriving}
-use Rattle.model.proofs.one_slot.Swap.{joins-once, asked-no-longer}
-use Rattle.model.proofs.delay.IdealSlot.{held-before}
+use Rattle.model.proofs.one_slot.Swap.{joins_once, asked-no_longer}
+use Rattle.model.proofs.delay.IdealSlot.{held_before}
 use Rattle.layout.specs.Lengths.{tail_places, head_places}
 use Rattle.layout.specs.Entries.{bytes_in, counts_in, cell_of, cells_in}
 use Rattle.layout.proofs.Entries.{bytes-length}
@@ -74,7 +74,7 @@ module _ (regs : Regs) (m : Arrays) {store : List ℕ} {call : Call} {is_owed' s
   some_cell = omega arith
 
   pub cells_fit : l ≤ length m.cells
-  cells_fit = omega (arith, limits.span-high, long.cells_long)
+  cells_fit = omega (arith, limits.span_high, long.cells_long)
 
   oldest : oldest_cell x.cells ≡ cell_of (get_or m.cells 0 0)
   oldest = oldest_cell_lem l m.cells (omega arith) cells_fit
@@ -129,7 +129,7 @@ module _ (regs : Regs) (m : Arrays) {store : List ℕ} {call : Call} {is_owed' s
     pub byte-to_hold : (q : ℕ) → call.request ≡ some q → is_owed' ≡ false → 1 ≤ count_of q (bytes_in joined' tail₁)
     byte-to_hold q s f =
         subst (λ (t : List Byte). 1 ≤ count_of q t) (sym tail_1)
-        (judged.byte-there q s (held-before paper x store call some_cell judged q (sym (d.owed_is q s) ∙ f)))
+        (judged.byte-there q s (held_before paper x store call some_cell judged q (sym (d.owed_is q s) ∙ f)))
 
     module _ {a : Asked} {tail₂ cells₁ : List ℕ}
         (s3 : AskSays joined' is_owed' call.request tail₁ tail₂ a)
@@ -163,7 +163,7 @@ module _ (regs : Regs) (m : Arrays) {store : List ℕ} {call : Call} {is_owed' s
             s2.same_length,
             ap (λ (o : Option Byte). length (arriving o)) early_now,
             ap (λ (o : Option Byte). length (arriving o)) (late_now late_is),
-            joins-once x call,
+            joins_once x call,
             tail_in,
           )
 
@@ -195,15 +195,15 @@ module _ (regs : Regs) (m : Arrays) {store : List ℕ} {call : Call} {is_owed' s
             subst (λ (t : List Byte). regs.block ≤ count_of q t) (sym tail_filled) taken.1,
             subst (λ (r : Ring). r.first < regs.depth) at (rules.firsts q taken.0),
             subst (λ (r : Ring). r.count < regs.depth) at
-                (fewer-blocks (tail_bytes (asked x call) q) regs.block (blocks (asked x call) q) regs.depth
-                limits.b-low taken.1 (rules.room q taken.0)),
+                (fewer_blocks (tail_bytes (asked x call) q) regs.block (blocks (asked x call) q) regs.depth
+                limits.b_low taken.1 (rules.room q taken.0)),
           )
             where
               rules : Rules l (asked x call)
               rules = rules-3 paper x store call some_cell judged
 
               taken : (q < regs.queues) × (regs.block ≤ tail_bytes (asked x call) q)
-              taken = write-taken (asked x call) q (sym d.written_is ∙ e)
+              taken = write_taken (asked x call) q (sym d.written_is ∙ e)
 
               at : ring_of x.rings q ≡ ring (counts_in m.firsts q) (counts_in m.stored q)
               at = ring-at regs.queues m.firsts m.stored q taken.0
@@ -327,6 +327,6 @@ module _ (regs : Regs) (m : Arrays) {store : List ℕ} {call : Call} {is_owed' s
                       ≡ (carried_out 0 0 x store call).state
                   state_after_lem ep ej et fj fh =
                       same-state (sizes_in regs) ep tail_3 head_2 cells_1 rings_2
-                      (omega (arith, ej, fj, asked-no-longer x call judged.covered))
+                      (omega (arith, ej, fj, asked-no_longer x call judged.covered))
                       (et ∙ ap (max regs.head_mark) fh)
                       refl

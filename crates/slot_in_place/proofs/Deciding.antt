@@ -14,14 +14,14 @@ use Rattle.model.specs.Slot.{Call, oldest_cell, arriving, is_owed, swaps, early_
 use Rattle.model.specs.Slot.{queue_to_write, queue_to_read, slots_to_refill, Refill, refill_of}
 use Rattle.model.specs.Slot.{halves_taken, refusal, carried_out, accept, answer, slot}
 use Rattle.model.proofs.basics.Tests.{eqb_same}
-use Rattle.model.proofs.basics.Bytes.{count-append}
-use Rattle.model.proofs.basics.Cells.{owed-below}
-use Rattle.model.proofs.one_slot.StepsKeepRules.{owed-oldest}
-use Rattle.model.proofs.one_slot.Swap.{early-few}
+use Rattle.model.proofs.basics.Bytes.{count_append}
+use Rattle.model.proofs.basics.Cells.{owed_below}
+use Rattle.model.proofs.one_slot.StepsKeepRules.{owed_oldest}
+use Rattle.model.proofs.one_slot.Swap.{early_few}
 use Rattle.model.proofs.one_slot.Halves.{left-once}
 use Rattle.model.proofs.one_slot.Accepted.{Judged, accepted-facts, left-accepted}
 use Rattle.model.proofs.one_slot.Kept.{read_taken, rules-written}
-use Rattle.model.proofs.delay.IdealSlot.{held-before}
+use Rattle.model.proofs.delay.IdealSlot.{held_before}
 use Rattle.layout.specs.Lengths.{queue_places}
 use Rattle.layout.specs.Entries.{counts_in, cell_of}
 use Rattle.layout.specs.Calls.{chosen_in, refill_in, call_in}
@@ -49,7 +49,7 @@ module _ {regs : Regs} {m : Arrays} {counts : ByQueue} {store : List ℕ} (r : R
   pub oldest : oldest_cell x.cells ≡ cell_of (get_or m.cells 0 0)
   oldest =
       oldest_cell_lem (lookahead x.sizes) m.cells (omega arith)
-      (omega (arith, standing.cells_within_lem r, r.long.cells_long))
+      (omega (arith, standing.cells_inside r, r.long.cells_long))
 
   module _ {plan : Plan}
       (says : PlanSays (figures_in regs counts m.stored) regs.phase regs.head_fill x.cells
@@ -117,7 +117,7 @@ module _ {regs : Regs} {m : Arrays} {counts : ByQueue} {store : List ℕ} (r : R
         pub leaving_there : (q : ℕ) → cell_of (get_or m.cells 0 0) ≡ owed q
             → (q < queue_places) × (1 ≤ counts_in counts.heads q) × (1 ≤ counts_in counts.owing q)
         leaving_there q e = (
-          omega (arith, below, (standing.limits r).q-high),
+          omega (arith, below, (standing.limits r).q_high),
           omega (
             arith,
             r.tallies.heads_are.count_is q,
@@ -131,21 +131,21 @@ module _ {regs : Regs} {m : Arrays} {counts : ByQueue} {store : List ℕ} (r : R
             there =
                 omega (
                   arith,
-                  owed-oldest x.cells q,
+                  owed_oldest x.cells q,
                   ap (owes q) (oldest ∙ e),
                   ap {B = ℕ} (λ (t : Bool). choose t 1 0) (eqb_same q),
                 )
 
             below : q < regs.queues
-            below = owed-below regs.queues x.cells q judged.kept.within.cells-below there
+            below = owed_below regs.queues x.cells q judged.kept.within.cells_below there
 
         arrival-there : (y : Byte) → left.arrival ≡ some y → y.queue < queue_places
         arrival-there y s =
-            omega (arith, judged.arrival-known y s, (standing.limits r).q-high)
+            omega (arith, judged.arrival-known y s, (standing.limits r).q_high)
 
         request-there : (q : ℕ) → left.request ≡ some q → q < queue_places
         request-there q s =
-            omega (arith, judged.request-ok q s, (standing.limits r).q-high)
+            omega (arith, judged.request_ok q s, (standing.limits r).q_high)
 
         byte-there : (q : ℕ) → left.request ≡ some q → plan.owes ≡ false
             → 1 ≤ counts_in counts.tails q + count_of q (arriving left.arrival)
@@ -153,9 +153,9 @@ module _ {regs : Regs} {m : Arrays} {counts : ByQueue} {store : List ℕ} (r : R
             omega (
               arith,
               judged.byte-there q s
-                  (held-before paper x store left (omega arith) judged q (sym (owed_is q s) ∙ f)),
-              count-append q x.tail (arriving (early_arrival x left)),
-              early-few x left q,
+                  (held_before paper x store left (omega arith) judged q (sym (owed_is q s) ∙ f)),
+              count_append q x.tail (arriving (early_arrival x left)),
+              early_few x left q,
               r.tallies.tails_are.count_is q,
             )
 
@@ -166,7 +166,7 @@ module _ {regs : Regs} {m : Arrays} {counts : ByQueue} {store : List ℕ} (r : R
             let has = write_has_block x.phase x.sizes (tails_asked plan.owes left (counts_in counts.tails)) q
             (ap (write_now x.phase x.sizes) (tails_found x left owed_is r.tallies.tails_are.count_is)
             ∙ sym written_is ∙ e) in
-            (omega (arith, has.0, (standing.limits r).q-high), has.1)
+            (omega (arith, has.0, (standing.limits r).q_high), has.1)
 
         pub read_there : (q : ℕ) → chosen_in plan.refill.queue ≡ some q → q < queue_places
         read_there q e =
@@ -174,7 +174,7 @@ module _ {regs : Regs} {m : Arrays} {counts : ByQueue} {store : List ℕ} (r : R
               arith,
               (read_taken (lookahead x.sizes) (wrote x left) (rules-written paper x store left (omega arith) judged) q
                   (sym read_is ∙ e)).0,
-              (standing.limits r).q-high,
+              (standing.limits r).q_high,
             )
 
         -- The same of the halves as the plan has them.

@@ -13,11 +13,11 @@ use Rattle.model.specs.Basics.{all_of}
 use Rattle.model.specs.Sizes.{paper, lookahead, store_bytes}
 use Rattle.model.specs.State.{Ring, State, blocks, ring_of, cell_below}
 use Rattle.model.specs.Slot.{Call, refusal, Reply, number_alone, Answer, carried_out, answer, slot}
-use Rattle.model.proofs.basics.Tests.{by-test}
-use Rattle.model.proofs.basics.Cells.{cells-below-holds}
+use Rattle.model.proofs.basics.Tests.{by_test}
+use Rattle.model.proofs.basics.Cells.{cells_below_holds}
 use Rattle.model.proofs.one_slot.Rules.{Keeps, keeps-facts, keeps-holds}
 use Rattle.model.proofs.one_slot.Accepted.{Accepted, accepted-facts}
-use Rattle.model.proofs.one_slot.Kept.{Kept, carried-kept}
+use Rattle.model.proofs.one_slot.Kept.{Kept, carried_kept}
 use Rattle.model.proofs.one_slot.Calls.{answer-is}
 use Rattle.layout.specs.Lengths.{tail_places, head_places, cell_places, queue_places}
 use Rattle.layout.specs.Entries.{counts_in}
@@ -38,7 +38,7 @@ use Rattle.slot_in_place.specs.Says.{Decided, CarrySays, Ready}
 blocks-are : (n : ℕ) (firsts stored : List ℕ) (q : ℕ)
     → blocks_in n stored q ≡ (ring_of (rings_in n firsts stored) q).count
 blocks-are n firsts stored q =
-    by-test (ltb q n)
+    by_test (ltb q n)
     (λ t. rw t (ap (λ (r : Ring). r.count) (sym (ring-at n firsts stored q (ltb-true q n t)))))
     (λ t. rw t (ap (λ (r : Ring). r.count) (sym (ring-past n firsts stored q (ltb-false q n t)))))
 
@@ -72,12 +72,12 @@ module _ {regs : Regs} {m : Arrays} {counts : ByQueue} {store : List ℕ} (r : R
     tail_long : length x.tail ≡ regs.tail_fill
     tail_long = tail_length regs m r.long tail_in
 
-    pub cells_within_lem : lookahead (sizes_in regs) ≤ cell_places
-    cells_within_lem = omega (arith, limits.span-high)
+    pub cells_inside : lookahead (sizes_in regs) ≤ cell_places
+    cells_inside = omega (arith, limits.span_high)
 
     pub cells_known : all_of (cell_below queue_places) x.cells ≡ true
     cells_known =
-        cells-below-holds regs.queues queue_places limits.q-high x.cells kept.within.cells-below
+        cells_below_holds regs.queues queue_places limits.q_high x.cells kept.within.cells_below
 
     -- The counts that are kept beside the state are its figures.
     pub figures_are : figures_in regs counts m.stored ≡ figures_of x
@@ -99,8 +99,8 @@ module _ {regs : Regs} {m : Arrays} {counts : ByQueue} {store : List ℕ} (r : R
           arith,
           r.tallies.owed_are.count_is q,
           owed_at_most q x.cells,
-          cells_length (lookahead (sizes_in regs)) m.cells (omega (arith, cells_within_lem, r.long.cells_long)),
-          cells_within_lem,
+          cells_length (lookahead (sizes_in regs)) m.cells (omega (arith, cells_inside, r.long.cells_long)),
+          cells_inside,
         )
 
     -- A refused slot answers its number, and nothing has changed.
@@ -117,7 +117,7 @@ module _ {regs : Regs} {m : Arrays} {counts : ByQueue} {store : List ℕ} (r : R
           (d : Decided x store call is_owed' swaps' written readQueue) where
         left : Kept paper x store (carried_out 0 0 x store call)
         left =
-            carried-kept paper x store call (omega arith)
+            carried_kept paper x store call (omega arith)
             (subst (Accepted paper x store) d.all_taken (accepted-facts paper x store call d.accepted))
 
         pub carried_ready : {c : Carried} {m' : Arrays} {counts' : ByQueue} {store' : List ℕ}

@@ -18,16 +18,16 @@ use Rattle.model.specs.Slot.{youngest_cell, moves, places_on, Refill, refill_by,
 use Rattle.model.specs.Slot.{queue_to_write, joined, asked, wrote}
 use Rattle.model.specs.Slot.{swap_tests, swaps, arrival_unknown, arrival_full, arrival_taken, request_drops, halves_taken}
 use Rattle.model.specs.Slot.{request_unknown, nothing_to_take, leaves_uncovered, tail_full, head_full, refusals, refusal}
-use Rattle.model.proofs.basics.Tests.{by-test, positive, eqb_same, true-not-false}
-use Rattle.model.proofs.basics.FirstRefusal.{no-refusal-at, when-zero}
-use Rattle.model.proofs.basics.AllOf.{all-true-not}
-use Rattle.model.proofs.basics.Bytes.{count-append, count-one-other, count_past, length_without}
+use Rattle.model.proofs.basics.Tests.{by_test, positive, eqb_same, true_not_false}
+use Rattle.model.proofs.basics.FirstRefusal.{no_refusal_at, when-zero}
+use Rattle.model.proofs.basics.AllOf.{all_true_not}
+use Rattle.model.proofs.basics.Bytes.{count_append, count_one_other, count_past, length_without}
 use Rattle.model.proofs.one_slot.Rules.{keeps-facts}
-use Rattle.model.proofs.one_slot.StepsKeepRules.{count-head-without, owed-after-delivery}
-use Rattle.model.proofs.meaning.Steps.{seven-only}
+use Rattle.model.proofs.one_slot.StepsKeepRules.{count_head_without, owed_after_delivery}
+use Rattle.model.proofs.meaning.Steps.{seven_only}
 use Rattle.model.proofs.one_slot.Swap.{length_found}
 use Rattle.model.proofs.one_slot.Halves.{left-swaps}
-use Rattle.model.proofs.one_slot.Accepted.{Judged, judged-facts, early-none}
+use Rattle.model.proofs.one_slot.Accepted.{Judged, judged_facts, early_none}
 use Rattle.lookahead.specs.Says.{spent}
 use Rattle.layout.specs.Figures.{Figures, figures_of, new_cell}
 use Rattle.slot_counts.specs.Says.{tails_asked}
@@ -55,11 +55,11 @@ module _ (x : State) (kept : keeps paper x ≡ true) where
       → swaps_now (figures_of x) (owes_now (figures_of x) (some y.queue)) (some y) (some y.queue)
       ≡ swaps x (some y) (some y.queue)
   swaps-of_same y =
-      by-test (ltb y.queue x.sizes.Q)
+      by_test (ltb y.queue x.sizes.Q)
       (λ t. rw (t, lt-leb x.sizes.Q y.queue (ltb-true y.queue x.sizes.Q t)))
-      (λ t. all-true-not
+      (λ t. all_true_not
       (swap_tests_now (figures_of x) (owes_now (figures_of x) (some y.queue)) y (some y.queue)) 0 t
-      ∙ sym (all-true-not (swap_tests x y y.queue) 3 (no_byte (ltb-false y.queue x.sizes.Q t))))
+      ∙ sym (all_true_not (swap_tests x y y.queue) 3 (no_byte (ltb-false y.queue x.sizes.Q t))))
     where
       no_byte : x.sizes.Q ≤ y.queue → ltb 0 (tail_bytes x y.queue) ≡ false
       no_byte l =
@@ -69,13 +69,13 @@ module _ (x : State) (kept : keeps paper x ≡ true) where
       → swaps_now (figures_of x) (owes_now (figures_of x) request) arrival request ≡ swaps x arrival request
   swaps-as_paper none none = refl
   swaps-as_paper none (some q) = refl
-  swaps-as_paper (some y) none = all-true-not (swap_tests_now (figures_of x) false y none) 2 refl
+  swaps-as_paper (some y) none = all_true_not (swap_tests_now (figures_of x) false y none) 2 refl
   swaps-as_paper (some y) (some q) =
-      by-test (eqb q y.queue)
+      by_test (eqb q y.queue)
       (λ t. subst (λ (p : ℕ). swaps_now (figures_of x) (owes_now (figures_of x) (some p)) (some y) (some p)
       ≡ swaps x (some y) (some p)) (sym (eqb-true q y.queue t)) (swaps-of_same y))
-      (λ t. all-true-not (swap_tests_now (figures_of x) (owes_now (figures_of x) (some q)) y (some q)) 2 t
-      ∙ sym (all-true-not (swap_tests x y q) 1 t))
+      (λ t. all_true_not (swap_tests_now (figures_of x) (owes_now (figures_of x) (some q)) y (some q)) 2 t
+      ∙ sym (all_true_not (swap_tests x y q) 1 t))
 
 -- 4 and 5.
 two_tests : (s t : Bool) (m n : ℕ) → choose s (suc m) (when t (suc n))
@@ -95,14 +95,14 @@ none_with_arrival : (q : ℕ) (tail : List Byte) (arrival : Option Byte)
     → eqb (count_of q (tail ++ arriving arrival)) 0 ≡ choose (arrives_at arrival q) false (eqb (count_of q tail) 0)
 none_with_arrival q tail none =
     ap (λ (n : ℕ). eqb n 0)
-    (let e : count_of q (tail ++ []) ≡ count_of q tail = omega (arith, count-append q tail []) in e)
+    (let e : count_of q (tail ++ []) ≡ count_of q tail = omega (arith, count_append q tail []) in e)
 none_with_arrival q tail (some y) =
-    by-test (eqb y.queue q)
+    by_test (eqb y.queue q)
     (λ t. rw t (ne_eqb (count_of q (tail ++ y ∷ [])) 0
-    (λ e. omega (arith, e, rw t at (count-append q tail (y ∷ []))))))
+    (λ e. omega (arith, e, rw t at (count_append q tail (y ∷ []))))))
     (λ t. rw t (ap (λ (n : ℕ). eqb n 0)
     (let e : count_of q (tail ++ y ∷ []) ≡ count_of q tail
-    = omega (arith, count-append q tail (y ∷ []), count-one-other y q t) in e)))
+    = omega (arith, count_append q tail (y ∷ []), count_one_other y q t) in e)))
 
 three_tests : (unknown owing arrives nothing : Bool)
     → choose unknown 6 (choose (choose unknown false owing) 0 (choose arrives 0 (when nothing 7)))
@@ -144,7 +144,7 @@ first_is false false m n f = ap (λ (t : Bool). when t (suc m)) (ne_eqb 0 (suc m
 
 second_is : (u v : Bool) (m n : ℕ) → u ≡ false
     → first_refusal (when u (suc m) ∷ when v (suc n) ∷ []) ≡ when v (suc n)
-second_is true v m n e = absurd (true-not-false true refl e)
+second_is true v m n e = absurd (true_not_false true refl e)
 second_is false true m n e = refl
 second_is false false m n e = refl
 
@@ -244,7 +244,7 @@ new_cell_passed : (y : State) (credits : ℕ → ℕ) (cells : List Cell) (q : �
     → refill_by credits (cells ++ new_cell (is_owed y q) (some q) ∷ [])
     ≡ refill_by credits (cells ++ youngest_cell y (some q) ∷ [])
 new_cell_passed y credits cells q =
-    by-test (is_owed y q)
+    by_test (is_owed y q)
     (λ t. rw t)
     (λ t. rw t (byte-passed credits cells q (oldest_of q y.tail)))
 
@@ -272,11 +272,11 @@ full-alike x call e (some q) =
 module _ (x : State) (store : List ℕ) (call : Call) (j : Judged paper x store call) where
   owed_alike : (q : ℕ) → is_owed x q ≡ is_owed (joined x call) q
   owed_alike q =
-      by-test (is_owed x q)
+      by_test (is_owed x q)
       (λ t. t ∙ sym (lt-ltb (owed_cells y q) (head_bytes y q + bytes)
-      (omega (arith, owed-after-delivery x q j.covered, ltb-true (owed_cells x q) (head_bytes x q + bytes) t))))
+      (omega (arith, owed_after_delivery x q j.covered, ltb-true (owed_cells x q) (head_bytes x q + bytes) t))))
       (λ t. t ∙ sym (le-ltb (owed_cells y q) (head_bytes y q + bytes)
-      (omega (arith, owed-after-delivery x q j.covered, ltb-false (owed_cells x q) (head_bytes x q + bytes) t))))
+      (omega (arith, owed_after_delivery x q j.covered, ltb-false (owed_cells x q) (head_bytes x q + bytes) t))))
     where
       y : State
       y = after_delivery x
@@ -285,7 +285,7 @@ module _ (x : State) (store : List ℕ) (call : Call) (j : Judged paper x store 
       bytes = x.sizes.b * blocks x q
 
   owes-alike : (q : ℕ) → call.request ≡ some q → owes_now (figures_of x) call.request ≡ is_owed (joined x call) q
-  owes-alike q e = ap (owes_now (figures_of x)) e ∙ rw (lt-leb x.sizes.Q q (j.request-ok q e)) (owed_alike q)
+  owes-alike q e = ap (owes_now (figures_of x)) e ∙ rw (lt-leb x.sizes.Q q (j.request_ok q e)) (owed_alike q)
 
   new_cell_alike : (credits : ℕ → ℕ) (cells : List Cell) (request : Option ℕ)
       → ((q : ℕ) → request ≡ some q → owes_now (figures_of x) request ≡ is_owed (joined x call) q)
@@ -302,7 +302,7 @@ module _ (x : State) (store : List ℕ) (call : Call) (j : Judged paper x store 
       ap (λ (r : Refill). choose (moves x) r no_refill)
       (new_cell_alike (spent (head_bytes x) (oldest_cell x.cells)) (drop 1 x.cells) call.request owes-alike
       ∙ ap (λ (credits : ℕ → ℕ). refill_by credits (wrote x call).cells)
-      (fun_ext (λ q. sym (count-head-without (oldest_cell x.cells) x.head q))))
+      (fun_ext (λ q. sym (count_head_without (oldest_cell x.cells) x.head q))))
       ∙ by_phase (moves x) (refill_by (head_bytes (wrote x call)) (wrote x call).cells)
 
 -- A request that is dropped would not be Owed, so that what is left of the call is Owed as the call is.
@@ -312,7 +312,7 @@ owes-left x call = go call.request refl
   where
     dropped : (q : ℕ) → call.request ≡ some q → request_drops x call ≡ true → is_owed x q ≡ false
     dropped q e d =
-        (seven-only x (arrival_taken x call) q (ap (nothing_to_take x (arrival_taken x call)) (sym e) ∙ d)).0
+        (seven_only x (arrival_taken x call) q (ap (nothing_to_take x (arrival_taken x call)) (sym e) ∙ d)).0
 
     go : (request : Option ℕ) → call.request ≡ request
         → owes_now (figures_of x) (halves_taken x call).request ≡ owes_now (figures_of x) call.request
@@ -320,7 +320,7 @@ owes-left x call = go call.request refl
         ap (λ (r : Option ℕ). owes_now (figures_of x) (choose (nothing_to_take x (arrival_taken x call) r) none r)) e
         ∙ ap (owes_now (figures_of x)) (sym e)
     go (some q) e =
-        by-test (request_drops x call)
+        by_test (request_drops x call)
         (λ d. ap (λ (t : Bool). owes_now (figures_of x) (choose t none call.request)) d
         ∙ sym (ap (owes_now (figures_of x)) e ∙ not-owed (leb x.sizes.Q q) (dropped q e d)))
         (λ d. ap (λ (t : Bool). owes_now (figures_of x) (choose t none call.request)) d)
@@ -347,10 +347,10 @@ module _ (x : State) (store : List ℕ) (call : Call) (kept : keeps paper x ≡ 
       when (leaves_uncovered (oldest_cell x.cells) x) 8 ∷ when (tail_full x left.arrival left.request) 9 ∷ []
 
   arrival-known : first_refusal unknowns ≡ 0 → arrival_unknown x call.arrival ≡ false
-  arrival-known e = when-zero _ 3 (no-refusal-at unknowns 0 e)
+  arrival-known e = when-zero _ 3 (no_refusal_at unknowns 0 e)
 
   request-known : first_refusal unknowns ≡ 0 → request_unknown x call.request ≡ false
-  request-known e = when-zero _ 5 (no-refusal-at unknowns 1 e)
+  request-known e = when-zero _ 5 (no_refusal_at unknowns 1 e)
 
   early_as_paper : early_number (figures_of x) (owes_now (figures_of x) call.request) (oldest_cell x.cells) call
       ≡ first_refusal (unknowns ++ others)
@@ -395,10 +395,10 @@ module _ (x : State) (store : List ℕ) (call : Call) (kept : keeps paper x ≡ 
 
       none_unknown : first_refusal (unknowns ++ others) ≡ 0 → first_refusal unknowns ≡ 0
       none_unknown e =
-          rw (no-refusal-at (unknowns ++ others) 0 e, no-refusal-at (unknowns ++ others) 1 e)
+          rw (no_refusal_at (unknowns ++ others) 0 e, no_refusal_at (unknowns ++ others) 1 e)
 
       judged : first_refusal (unknowns ++ others) ≡ 0 → Judged paper x store left
-      judged e = judged-facts paper x store call (passed (keeps paper x) short (unknowns ++ others) kept enough ∙ e)
+      judged e = judged_facts paper x store call (passed (keeps paper x) short (unknowns ++ others) kept enough ∙ e)
 
       full-same : first_refusal unknowns ≡ 0 → Judged paper x store left → full-before ≡ full-then
       full-same u j =
@@ -414,13 +414,13 @@ module _ (x : State) (store : List ℕ) (call : Call) (kept : keeps paper x ≡ 
   -- A slot that goes on.
   module _ (accepted : refusal paper x store call ≡ 0) where
     known : arrival_unknown x call.arrival ≡ false
-    known = when-zero _ 3 (no-refusal-at (refusals paper x store call) 2 accepted)
+    known = when-zero _ 3 (no_refusal_at (refusals paper x store call) 2 accepted)
 
     asked-known : request_unknown x call.request ≡ false
-    asked-known = when-zero _ 5 (no-refusal-at (refusals paper x store call) 3 accepted)
+    asked-known = when-zero _ 5 (no_refusal_at (refusals paper x store call) 3 accepted)
 
     judged : Judged paper x store left
-    judged = judged-facts paper x store call (early-none paper x store call accepted)
+    judged = judged_facts paper x store call (early_none paper x store call accepted)
 
     pub plan_left : left_of (figures_of x) call ≡ left
     plan_left = left-as_paper x kept call known asked-known

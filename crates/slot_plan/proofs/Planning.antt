@@ -11,10 +11,10 @@ use borrow.Author.Tests.{eqb-true, eqb-false, eq-eqb, leb-false}
 use Rattle.model.specs.Basics.{choose, when, first_refusal}
 use Rattle.model.specs.State.{Byte, Cell, owed, count_of}
 use Rattle.model.specs.Slot.{Call, oldest_cell, Refill}
-use Rattle.model.proofs.basics.Tests.{by-test, positive, none-not-some, true-not-false}
-use Rattle.model.proofs.basics.FirstRefusal.{no-refusal-at, when-zero}
+use Rattle.model.proofs.basics.Tests.{by_test, positive, none_not_some, true_not_false}
+use Rattle.model.proofs.basics.FirstRefusal.{no_refusal_at, when-zero}
 use Rattle.layout.specs.Counts.{by_queue}
-use Rattle.model.proofs.basics.Bytes.{count-one-same}
+use Rattle.model.proofs.basics.Bytes.{count_one_same}
 use Rattle.layout.specs.declared.Chosen.{Chosen}
 use Rattle.layout.specs.declared.Refill as code
 use Rattle.layout.specs.Entries.{counts_in}
@@ -34,22 +34,22 @@ use Rattle.slot_refusals.proofs.Firsts.{first_here}
 -- A request that takes an Owed cell is of a queue below the last.
 owes-below : (f : Figures) (q : ℕ) → owes_now f (some q) ≡ true → q < f.sizes.Q
 owes-below f q e =
-    by-test (leb f.sizes.Q q)
-    (λ t. absurd (true-not-false (owes_now f (some q)) e (rw t)))
+    by_test (leb f.sizes.Q q)
+    (λ t. absurd (true_not_false (owes_now f (some q)) e (rw t)))
     (λ t. leb-false f.sizes.Q q t)
 
 -- What is left of a half is the half, and it was not dropped.
 arrival-came : (n : ℕ) (arrival : Option Byte) (y : Byte) → arrival_left n arrival ≡ some y → arrival ≡ some y
 arrival-came n arrival y e =
-    by-test (eqb n 5)
-    (λ t. absurd (none-not-some y (sym (ap (λ (b : Bool). choose b none arrival) t) ∙ e)))
+    by_test (eqb n 5)
+    (λ t. absurd (none_not_some y (sym (ap (λ (b : Bool). choose b none arrival) t) ∙ e)))
     (λ t. sym (ap (λ (b : Bool). choose b none arrival) t) ∙ e)
 
 request-came : (n : ℕ) (request : Option ℕ) (q : ℕ) → request_left n request ≡ some q
     → (request ≡ some q) × (n ≡ 7 → ⊥)
 request-came n request q e =
-    by-test (eqb n 7)
-    (λ t. absurd (none-not-some q (sym (ap (λ (b : Bool). choose b none request) t) ∙ e)))
+    by_test (eqb n 7)
+    (λ t. absurd (none_not_some q (sym (ap (λ (b : Bool). choose b none request) t) ∙ e)))
     (λ t. (sym (ap (λ (b : Bool). choose b none request) t) ∙ e, eqb-false n 7 t))
 
 -- 4 and 6 ruled out: the queue is below the last. 7 ruled out too: a request that takes a tail byte finds one, this
@@ -57,7 +57,7 @@ request-came n request q e =
 arrival-below : (f : Figures) (swapping : Bool) (y : Byte) → (arrival_number f swapping (some y) ≡ 4 → ⊥)
     → y.queue < f.sizes.Q
 arrival-below f swapping y n =
-    by-test (leb f.sizes.Q y.queue)
+    by_test (leb f.sizes.Q y.queue)
     (λ t. absurd (n (rw t)))
     (λ t. leb-false f.sizes.Q y.queue t)
 
@@ -69,8 +69,8 @@ found-or_arrives none tails q n =
       positive (tails q) (λ z. n (ap (λ (t : Bool). when t 7) (eq-eqb (tails q) 0 z))),
     )
 found-or_arrives (some y) tails q n =
-    by-test (eqb y.queue q)
-    (λ t. omega (arith, count-one-same y, ap (λ (p : ℕ). count_of p (y ∷ [])) (eqb-true y.queue q t)))
+    by_test (eqb y.queue q)
+    (λ t. omega (arith, count_one_same y, ap (λ (p : ℕ). count_of p (y ∷ [])) (eqb-true y.queue q t)))
     (λ t. omega (
       arith,
       positive (tails q) (λ z. n (rw (t, eq-eqb (tails q) 0 z))),
@@ -80,7 +80,7 @@ request-finds : (f : Figures) (arrival : Option Byte) (q : ℕ) → (request_num
     → (request_number f false arrival (some q) ≡ 7 → ⊥)
     → (q < f.sizes.Q) × (1 ≤ arrival_counted arrival f.tails q)
 request-finds f arrival q six seven =
-    by-test (leb f.sizes.Q q)
+    by_test (leb f.sizes.Q q)
     (λ t. absurd (six (rw t)))
     (λ t. (
       leb-false f.sizes.Q q t,
@@ -166,7 +166,7 @@ module _ (regs : Regs) (tails heads owing stored : List ℕ) (cells : List Cell)
       (ap (owes_now (figures_in regs (by_queue [] heads owing) stored)) (sym e) ∙ sym owes_is ∙ t)
 
   -- Of a slot that goes on.
-  module _ (none-early : v.number ≡ 0) where
+  module _ (none_early : v.number ≡ 0) where
     abbrev stops : List ℕ
     stops =
         when (eqb (arrival_found f owes call) 4) 4 ∷
@@ -176,7 +176,7 @@ module _ (regs : Regs) (tails heads owing stored : List ℕ) (cells : List Cell)
         (left_now f owes call).arrival ∷ []
 
     none_at : (i : ℕ) → get_or stops i 0 ≡ 0
-    none_at i = no-refusal-at stops i (sym by_all.number_is ∙ none-early)
+    none_at i = no_refusal_at stops i (sym by_all.number_is ∙ none_early)
 
     not-4 : arrival_found f owes call ≡ 4 → ⊥
     not-4 = eqb-false (arrival_found f owes call) 4 (when-zero _ 3 (none_at 0))
@@ -185,10 +185,10 @@ module _ (regs : Regs) (tails heads owing stored : List ℕ) (cells : List Cell)
     not-6 = eqb-false (request_found f owes call) 6 (when-zero _ 5 (none_at 1))
 
     left-arrival : arrival_in v.arrival ≡ (left_now f owes call).arrival
-    left-arrival = ap (λ (c : Call). c.arrival) (by_all.left_is none-early)
+    left-arrival = ap (λ (c : Call). c.arrival) (by_all.left_is none_early)
 
     left-request : request_in v.request ≡ (left_now f owes call).request
-    left-request = ap (λ (c : Call). c.request) (by_all.left_is none-early)
+    left-request = ap (λ (c : Call). c.request) (by_all.left_is none_early)
 
     -- A leaving Owed cell has a head byte.
     pub leaving_has_byte : (q : ℕ) → cell ≡ owed q → 1 ≤ counts_in heads q
@@ -264,16 +264,16 @@ module _ (regs : Regs) (tails heads owing stored : List ℕ) (cells : List Cell)
       (λ z. n (judged_by_all.number_is ∙ z)))
       (λ z. n (sym e ∙ z))
 
-  module _ (none-early : v.number ≡ 0)
+  module _ (none_early : v.number ≡ 0)
       (refill : code.Refill)
       (read_is : refill_in refill
       ≡ read_now regs.phase (sizes_in regs) (counts_in heads) cells owes (request_in v.request))
       {full : Bool} (Full-is : full ≡ full_now (sizes_in regs) regs.head_fill cell (chosen_in refill.queue)) where
     no_early : early ≡ 0
-    no_early = sym judged_by_all.number_is ∙ none-early
+    no_early = sym judged_by_all.number_is ∙ none_early
 
     left-found : call_in v.arrival v.request ≡ left_of f call
-    left-found = judged_by_all.left_is none-early
+    left-found = judged_by_all.left_is none_early
 
     read_found : refill_in refill ≡ to_read
     read_found =
@@ -308,11 +308,11 @@ module _ (regs : Regs) (tails heads owing stored : List ℕ) (cells : List Cell)
         })
     plan_accepted t written written_is = record {
       number_is = rw (no_early, ← full-found, t);
-      arrival-number_is = λ z. judged_by_all.arrival-number_is none-early;
-      request-number_is = λ z. judged_by_all.request-number_is none-early;
+      arrival-number_is = λ z. judged_by_all.arrival-number_is none_early;
+      request-number_is = λ z. judged_by_all.request-number_is none_early;
       left_is = λ z. left-found;
       owes_is = λ z. owes-found;
-      swaps-is = λ z. judged_by_all.swaps-is none-early;
+      swaps-is = λ z. judged_by_all.swaps-is none_early;
       written_is = λ z.
           written_is
           ∙ ap (λ (o : Bool). write_now regs.phase (sizes_in regs)

@@ -12,7 +12,7 @@ use Rattle.model.specs.Sizes.{Sizes}
 use Rattle.model.specs.State.{Cell, empty, held, owed, cell_below}
 use Rattle.model.specs.Slot.{oldest_cell, refill_queue, refill_by, no_refill}
 use Rattle.model.proofs.basics.Tests.{by_zero, positive, and_left}
-use Rattle.model.proofs.meaning.Scan.{scan-stops, scan-goes-on}
+use Rattle.model.proofs.meaning.Scan.{scan_stops, scan_goes_on}
 use Rattle.layout.specs.Entries.{counts_in, cell_of, cells_in}
 use Rattle.layout.specs.Calls.{refill_at}
 use Rattle.layout.specs.Counts.{CountsAre}
@@ -23,10 +23,10 @@ use Rattle.slot_plan.specs.Says.{read_now}
 
 -- A new Owed cell stops the scan where no credit is left to it, and else does not.
 pub new_stops : (left : ℕ → ℕ) (q : ℕ) → left q ≡ 0 → some q ≡ refill_queue left (owed q ∷ [])
-new_stops left q e = sym (scan-stops left q [] e)
+new_stops left q e = sym (scan_stops left q [] e)
 
 pub new_covered : (left : ℕ → ℕ) (q : ℕ) → (left q ≡ 0 → ⊥) → none ≡ refill_queue left (owed q ∷ [])
-new_covered left q n = sym (scan-goes-on left q [] (positive (left q) n))
+new_covered left q n = sym (scan_goes_on left q [] (positive (left q) n))
 
 -- Of the older cells and the new one: where one is found, the scan has come to its place.
 same_place : (q m n : ℕ) → m ≡ n → refill_at (some q) m ≡ record { queue = some q; slots_left = n }

@@ -10,11 +10,11 @@ use borrow.Author.Tests.{eq-eqb, ne_eqb}
 use Rattle.model.specs.Basics.{choose}
 use Rattle.model.specs.Sizes.{Sizes}
 use Rattle.model.specs.Slot.{fullest}
-use Rattle.model.proofs.basics.Tests.{none-not-some}
+use Rattle.model.proofs.basics.Tests.{none_not_some}
 use Rattle.model.proofs.meaning.Fullest.{fullest-some}
 use Rattle.slot_plan.specs.Says.{write_now}
 
-module _ (phase : ℕ) (s : Sizes) (tails : ℕ → ℕ) (b-low : 1 ≤ s.b) where
+module _ (phase : ℕ) (s : Sizes) (tails : ℕ → ℕ) (b_low : 1 ≤ s.b) where
   pub not_yet : (phase + 1 ≡ s.b → ⊥) → write_now phase s tails ≡ none
   not_yet h = rw (ne_eqb phase (s.b - 1) (λ e. h (omega (arith, e))))
 
@@ -27,4 +27,4 @@ write_has_block phase s tails q e = go (eqb phase (s.b - 1)) e
   where
     go : (t : Bool) → choose t (fullest s.b tails s.Q) none ≡ some q → (q < s.Q) × (s.b ≤ tails q)
     go true e = let f = fullest-some s.b tails s.Q q e in (f.below, f.has_block)
-    go false e = absurd (none-not-some q e)
+    go false e = absurd (none_not_some q e)

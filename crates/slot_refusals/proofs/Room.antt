@@ -8,7 +8,7 @@ use lib.Dec.{ltb}
 use borrow.Author.Tests.{ltb-true, ltb-false, lt-ltb, le-ltb}
 use Rattle.model.specs.Sizes.{Sizes, head_size}
 use Rattle.model.specs.State.{Cell, empty, held, owed, owes}
-use Rattle.model.proofs.basics.Tests.{by-test, eqb_same}
+use Rattle.model.proofs.basics.Tests.{by_test, eqb_same}
 use Rattle.layout.specs.Entries.{cell_of}
 use Rattle.layout.proofs.Cells.{cell_owed, cell_owes_nothing}
 use Rattle.slot_refusals.specs.Says.{takes_byte, full_now}
@@ -27,7 +27,7 @@ module _ (s : Sizes) (fill cell q : ℕ) where
   pub full-with_owed : 1 ≤ s.Q → 131072 ≤ cell
       → ltb (2 * (s.Q * (s.b - 1)) + 1 + 1) (fill + s.b) ≡ full_now s fill (cell_of cell) (some q)
   full-with_owed low h = rw (cell_owed cell h)
-      (by-test (ltb (head_size s) (fill - 1 + s.b))
+      (by_test (ltb (head_size s) (fill - 1 + s.b))
       (λ t. rw t (lt-ltb (head_size s + 1) (fill + s.b)
       (omega (arith, ltb-true (head_size s) (fill - 1 + s.b) t, head_takes_block s.Q s.b low))))
       (λ t. rw t (le-ltb (head_size s + 1) (fill + s.b)

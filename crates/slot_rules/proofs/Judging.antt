@@ -10,10 +10,10 @@ use Rattle.model.specs.Basics.{all_of, all_below}
 use Rattle.model.specs.Sizes.{paper, lookahead}
 use Rattle.model.specs.State.{Byte, Cell, Ring, State, ring_of, blocks, first_in_range, has_room, is_backed}
 use Rattle.model.specs.State.{tail_bytes, head_bytes, owed_cells, byte_below, cell_below, rules, keeps}
-use Rattle.model.proofs.basics.Tests.{by-test, and_both, true-not-false}
-use Rattle.model.proofs.basics.AllOf.{all-true-at, all-below-facts, all-below-holds}
-use Rattle.model.proofs.basics.Bytes.{below-facts, below_holds}
-use Rattle.model.proofs.basics.Cells.{cells-below-facts, cells-below-holds}
+use Rattle.model.proofs.basics.Tests.{by_test, and_both, true_not_false}
+use Rattle.model.proofs.basics.AllOf.{all_true_at, all_below_facts, all_below_holds}
+use Rattle.model.proofs.basics.Bytes.{below_facts, below_holds}
+use Rattle.model.proofs.basics.Cells.{cells_below_facts, cells_below_holds}
 use Rattle.model.proofs.one_slot.Rules.{keeps-facts, keeps-holds}
 use Rattle.layout.specs.Entries.{counts_in}
 use Rattle.layout.specs.Counts.{ByQueue, Tallies}
@@ -24,16 +24,16 @@ use Rattle.layout.proofs.Rings.{rings_length, ring-at}
 use Rattle.layout.proofs.Fits.{tail_in_array, head_in_array, tail_length, head_length}
 use Rattle.slot_rules.specs.declared.RulesJudged.{RulesJudged}
 use Rattle.slot_rules.specs.Says.{regs_keep, ring_keeps, queue_keeps, queues_keep, RulesSays}
-use Rattle.slot_rules.proofs.Numbers.{Fit, fit_holds, tail_within, head_within, cells_within_lem}
+use Rattle.slot_rules.proofs.Numbers.{Fit, fit_holds, tail_within, head_within, cells_within}
 use Rattle.slot_rules.proofs.Queues.{ring-first, ring-room, ring-backed}
 
 -- Queue numbers below one bound are below a greater one.
 pub bytes-wider : (n m : ℕ) → n ≤ m → (xs : List Byte) → all_of (byte_below n) xs ≡ true → all_of (byte_below m) xs ≡ true
-bytes-wider n m h xs e = below_holds n m h xs (below-facts n xs e)
+bytes-wider n m h xs e = below_holds n m h xs (below_facts n xs e)
 
 pub cells_wider : (n m : ℕ) → n ≤ m → (cells : List Cell) → all_of (cell_below n) cells ≡ true
     → all_of (cell_below m) cells ≡ true
-cells_wider n m h cells e = cells-below-holds n m h cells (cells-below-facts n cells e)
+cells_wider n m h cells e = cells_below_holds n m h cells (cells_below_facts n cells e)
 
 same_test : (s t : Bool) → (s ≡ true → t ≡ true) → (t ≡ true → s ≡ true) → s ≡ t
 same_test true t f g = sym (f refl)
@@ -45,10 +45,10 @@ module _ (regs : Regs) (m : Arrays) (long : Long m) where
   x = state_in regs m
 
   fails : (keeps paper x ≡ true → ⊥) → false ≡ keeps paper x
-  fails h = by-test (keeps paper x) (λ t. absurd (h t)) (λ t. sym t)
+  fails h = by_test (keeps paper x) (λ t. absurd (h t)) (λ t. sym t)
 
   rule : keeps paper x ≡ true → (i : ℕ) → get_or (rules paper x) i true ≡ true
-  rule e i = all-true-at (rules paper x) i e
+  rule e i = all_true_at (rules paper x) i e
 
   -- A state that keeps the rules has numbers that fit: a fill past its array would leave more bytes than the cache has.
   kept_fit : keeps paper x ≡ true → Fit regs
@@ -68,25 +68,25 @@ module _ (regs : Regs) (m : Arrays) (long : Long m) where
 
   -- Where one part fails, the rules do.
   pub numbers-fail : regs_keep regs ≡ false → false ≡ keeps paper x
-  numbers-fail f = fails (λ e. true-not-false (regs_keep regs) (fit_holds regs (kept_fit e)) f)
+  numbers-fail f = fails (λ e. true_not_false (regs_keep regs) (fit_holds regs (kept_fit e)) f)
 
   pub tail_fails : all_of (byte_below regs.queues) x.tail ≡ false → false ≡ keeps paper x
-  tail_fails f = fails (λ e. true-not-false (all_of (byte_below regs.queues) x.tail) (rule e 7) f)
+  tail_fails f = fails (λ e. true_not_false (all_of (byte_below regs.queues) x.tail) (rule e 7) f)
 
   pub head_fails : all_of (byte_below regs.queues) x.head ≡ false → false ≡ keeps paper x
-  head_fails f = fails (λ e. true-not-false (all_of (byte_below regs.queues) x.head) (rule e 8) f)
+  head_fails f = fails (λ e. true_not_false (all_of (byte_below regs.queues) x.head) (rule e 8) f)
 
   pub cells_fail : all_of (cell_below regs.queues) x.cells ≡ false → false ≡ keeps paper x
-  cells_fail f = fails (λ e. true-not-false (all_of (cell_below regs.queues) x.cells) (rule e 9) f)
+  cells_fail f = fails (λ e. true_not_false (all_of (cell_below regs.queues) x.cells) (rule e 9) f)
 
   pub rules-broken : {r : RulesJudged} → r.kept ≡ false → false ≡ keeps paper x → RulesSays x r
-  rules-broken {r} e f = record { kept_is = e ∙ f; counted = λ t. absurd (true-not-false r.kept t e) }
+  rules-broken {r} e f = record { kept_is = e ∙ f; counted = λ t. absurd (true_not_false r.kept t e) }
 
   -- Where they hold, the queues decide, by counts of their tail bytes, head bytes and Owed cells.
   module _ (f : Fit regs)
       (tail_below : all_of (byte_below regs.queues) x.tail ≡ true)
       (head_below : all_of (byte_below regs.queues) x.head ≡ true)
-      (cells-below : all_of (cell_below regs.queues) x.cells ≡ true)
+      (cells_below : all_of (cell_below regs.queues) x.cells ≡ true)
       {counts : ByQueue} (t : Tallies x counts) where
     abbrev at_queue : ℕ → Bool
     at_queue =
@@ -114,23 +114,23 @@ module _ (regs : Regs) (m : Arrays) (long : Long m) where
 
     kept_queues : keeps paper x ≡ true → all_below regs.queues at_queue ≡ true
     kept_queues e =
-        all-below-holds regs.queues at_queue
+        all_below_holds regs.queues at_queue
         (λ q l. queue_same q l
-        ∙ and_both (first_in_range x q) _ (all-below-facts regs.queues (first_in_range x) (rule e 4) q l)
-        (and_both (has_room x q) _ (all-below-facts regs.queues (has_room x) (rule e 12) q l)
-        (and_both (is_backed x q) _ (all-below-facts regs.queues (is_backed x) (rule e 13) q l) refl)))
+        ∙ and_both (first_in_range x q) _ (all_below_facts regs.queues (first_in_range x) (rule e 4) q l)
+        (and_both (has_room x q) _ (all_below_facts regs.queues (has_room x) (rule e 12) q l)
+        (and_both (is_backed x q) _ (all_below_facts regs.queues (is_backed x) (rule e 13) q l) refl)))
 
     queues_kept : all_below regs.queues at_queue ≡ true → keeps paper x ≡ true
     queues_kept e = keeps-holds paper x (record {
       sizes-ok = f.sizes-ok;
       phase_ok = f.phase_ok;
       within = record {
-        tail_below = below-facts regs.queues x.tail tail_below;
-        head_below = below-facts regs.queues x.head head_below;
-        cells-below = cells-below-facts regs.queues x.cells cells-below;
+        tail_below = below_facts regs.queues x.tail tail_below;
+        head_below = below_facts regs.queues x.head head_below;
+        cells_below = cells_below_facts regs.queues x.cells cells_below;
         cells_long = cells_length (lookahead (sizes_in regs)) m.cells
-            (omega (arith, cells_within_lem regs f, long.cells_long));
-        rings-long = rings_length regs.queues m.firsts m.stored;
+            (omega (arith, cells_within regs f, long.cells_long));
+        rings_long = rings_length regs.queues m.firsts m.stored;
         firsts = λ q l. ring-first regs (ring_of x.rings q).first (blocks x q) (tail_bytes x q) (head_bytes x q)
             (owed_cells x q) (queue_holds q l);
         room = λ q l. ring-room regs (ring_of x.rings q).first (blocks x q) (tail_bytes x q) (head_bytes x q)
@@ -152,7 +152,7 @@ module _ (regs : Regs) (m : Arrays) (long : Long m) where
         head_long = head_length regs m long (head_within regs f)
 
         queue_holds : (q : ℕ) → q < regs.queues → in_model q ≡ true
-        queue_holds q l = sym (queue_same q l) ∙ all-below-facts regs.queues at_queue e q l
+        queue_holds q l = sym (queue_same q l) ∙ all_below_facts regs.queues at_queue e q l
 
     pub queues_decide : (answer : Bool)
         → answer ≡ queues_keep regs (counts_in m.firsts) (counts_in m.stored) (counts_in counts.tails)

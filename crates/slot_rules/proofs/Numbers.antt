@@ -10,8 +10,8 @@ use lib.ListN.{get_or}
 use borrow.Author.Tests.{ltb-true, lt-ltb}
 use Rattle.model.specs.Basics.{between}
 use Rattle.model.specs.Sizes.{paper_limits, accepts, tail_size, head_size, lookahead}
-use Rattle.model.proofs.basics.Tests.{by-test, between-facts, between-holds}
-use Rattle.model.proofs.basics.AllOf.{all-true-at}
+use Rattle.model.proofs.basics.Tests.{by_test, between-facts, between-holds}
+use Rattle.model.proofs.basics.AllOf.{all_true_at}
 use Rattle.layout.specs.Lengths.{tail_places, head_places, cell_places}
 use Rattle.layout.specs.declared.Regs.{Regs}
 use Rattle.layout.specs.Views.{sizes_in}
@@ -49,7 +49,7 @@ fit_facts regs e = record {
 }
   where
     rule : (i : ℕ) → get_or (fit_rules regs) i true ≡ true
-    rule i = all-true-at (fit_rules regs) i e
+    rule i = all_true_at (fit_rules regs) i e
 
     tail_marked : (regs.tail_fill ≤ regs.tail_mark) × (regs.tail_mark ≤ tail_size (sizes_in regs))
     tail_marked = between-facts regs.tail_fill regs.tail_mark (tail_size (sizes_in regs)) (rule 2)
@@ -77,7 +77,7 @@ fit_holds regs f =
     ∙ lt-ltb regs.last_asked regs.queues f.last_below
 
 pub fit_not : (regs : Regs) → (Fit regs → ⊥) → false ≡ regs_keep regs
-fit_not regs h = by-test (regs_keep regs) (λ t. absurd (h (fit_facts regs t))) (λ t. sym t)
+fit_not regs h = by_test (regs_keep regs) (λ t. absurd (h (fit_facts regs t))) (λ t. sym t)
 
 -- Fills that fit lie within their arrays, and so does the lookahead.
 pub tail_within : (regs : Regs) → Fit regs → regs.tail_fill < tail_places
@@ -86,5 +86,5 @@ tail_within regs f = omega (arith, f.tail_low, f.tail_high, tail_below_array (si
 pub head_within : (regs : Regs) → Fit regs → regs.head_fill < head_places
 head_within regs f = omega (arith, f.head_low, f.head_high, head_below_array (sizes_in regs) f.sizes-ok)
 
-pub cells_within_lem : (regs : Regs) → Fit regs → lookahead (sizes_in regs) ≤ cell_places
-cells_within_lem regs f = omega (arith, (in_limits regs f.sizes-ok).span-high)
+pub cells_within : (regs : Regs) → Fit regs → lookahead (sizes_in regs) ≤ cell_places
+cells_within regs f = omega (arith, (in_limits regs f.sizes-ok).span_high)

@@ -10,8 +10,8 @@ use lib.Dec.{ltb, leb}
 use lib.ListN.{get_or}
 use borrow.Author.Tests.{ltb-true, leb-true, lt-ltb, le-leb}
 use Rattle.model.specs.Basics.{all_below}
-use Rattle.model.proofs.basics.Tests.{by-test, true-not-false, and_both, and_left, and_right}
-use Rattle.model.proofs.basics.AllOf.{all-below-facts}
+use Rattle.model.proofs.basics.Tests.{by_test, true_not_false, and_both, and_left, and_right}
+use Rattle.model.proofs.basics.AllOf.{all_below_facts}
 use Rattle.layout.specs.Entries.{counts_in}
 use Rattle.layout.specs.declared.Regs.{Regs}
 use Rattle.layout.proofs.Ranges.{InLimits}
@@ -43,7 +43,7 @@ module _ (regs : Regs) (first count tail head owed : ℕ) where
   -- Where one rule fails they do; where the first two hold, the last decides.
   pub ring-not : (ring_keeps regs first count tail head owed ≡ true → ⊥)
       → false ≡ ring_keeps regs first count tail head owed
-  ring-not h = by-test (ring_keeps regs first count tail head owed) (λ t. absurd (h t)) (λ t. sym t)
+  ring-not h = by_test (ring_keeps regs first count tail head owed) (λ t. absurd (h t)) (λ t. sym t)
 
   pub ring-decided : first < regs.depth → tail + regs.block * count ≤ regs.depth * regs.block
       → backed ≡ ring_keeps regs first count tail head owed
@@ -54,10 +54,10 @@ module _ (regs : Regs) (first count tail head owed : ℕ) where
 -- The products of one queue's numbers are small.
 pub blocks-small : (regs : Regs) (count : ℕ) → InLimits regs → count < 256 → regs.block * count ≤ 32640
 blocks-small regs count f l =
-    mul-le-mul {n₁ = regs.block} {m₁ = count} {n₂ = 128} {m₂ = 255} f.b-high (omega arith)
+    mul-le-mul {n₁ = regs.block} {m₁ = count} {n₂ = 128} {m₂ = 255} f.b_high (omega arith)
 
 pub ring-small : (regs : Regs) → InLimits regs → regs.depth * regs.block ≤ 32640
-ring-small regs f = mul-le-mul {n₁ = regs.depth} {m₁ = regs.block} {n₂ = 255} {m₂ = 128} f.k-high f.b-high
+ring-small regs f = mul-le-mul {n₁ = regs.depth} {m₁ = regs.block} {n₂ = 255} {m₂ = 128} f.k_high f.b_high
 
 -- All queues, by arrays of their numbers.
 module _ (regs : Regs) (firsts stored tails heads owing : List ℕ) where
@@ -75,6 +75,6 @@ module _ (regs : Regs) (firsts stored tails heads owing : List ℕ) where
     pub one_fails : q < regs.queues → answer ≡ false → false ≡ all_below regs.queues keeps_at
     unfolding counts_in
     one_fails l k =
-        by-test (all_below regs.queues keeps_at)
-        (λ t. absurd (true-not-false answer (answer-is ∙ all-below-facts regs.queues keeps_at t q l) k))
+        by_test (all_below regs.queues keeps_at)
+        (λ t. absurd (true_not_false answer (answer-is ∙ all_below_facts regs.queues keeps_at t q l) k))
         (λ t. sym t)

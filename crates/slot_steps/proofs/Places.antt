@@ -5,7 +5,7 @@ use native.Mathlib.Omega.{arith}
 use native.Mathlib.Nat.{mul-le-mul}
 use lib.ListN.{length}
 use Rattle.model.specs.Sizes.{store_bytes}
-use Rattle.model.proofs.basics.Rings.{place-fits}
+use Rattle.model.proofs.basics.Rings.{place_fits}
 use Rattle.layout.specs.Lengths.{queue_places}
 use Rattle.layout.specs.declared.Regs.{Regs}
 use Rattle.layout.specs.Views.{sizes_in}
@@ -20,26 +20,26 @@ pub record InStore (regs : Regs) (store : List ℕ) (q k : ℕ) : Type 0 where
 
 module _ {regs : Regs} {store : List ℕ} {q k : ℕ} (w : InStore regs store q k) where
   pub queue_in_arrays : q < queue_places
-  queue_in_arrays = omega (arith, w.queue_low, w.limits.q-high)
+  queue_in_arrays = omega (arith, w.queue_low, w.limits.q_high)
 
   pub row_small : q * regs.depth ≤ 16320
   row_small =
       mul-le-mul {n₁ = q} {m₁ = regs.depth} {n₂ = queue_places} {m₂ = 255} (omega (arith, queue_in_arrays))
-      w.limits.k-high
+      w.limits.k_high
 
   pub number_small : q * regs.depth + k ≤ 16575
-  number_small = omega (arith, row_small, w.block_low, w.limits.k-high)
+  number_small = omega (arith, row_small, w.block_low, w.limits.k_high)
 
   pub place_small : (q * regs.depth + k) * regs.block ≤ 2121600
   place_small =
       mul-le-mul {n₁ = q * regs.depth + k} {m₁ = regs.block} {n₂ = 16575} {m₂ = 128}
       number_small
-      w.limits.b-high
+      w.limits.b_high
 
   pub block_in_store : (q * regs.depth + k) * regs.block + regs.block ≤ length store
   block_in_store =
       omega (
         arith,
-        place-fits regs.queues regs.depth regs.block q k w.queue_low w.block_low,
+        place_fits regs.queues regs.depth regs.block q k w.queue_low w.block_low,
         w.store_long,
       )

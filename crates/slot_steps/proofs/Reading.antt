@@ -57,8 +57,8 @@ module _ (regs : Regs) (fill : ℕ) (head firsts stored store : List ℕ) (chose
           block_low = facts.2;
         };
         room = facts.1;
-        first_small = omega (arith, facts.2, limits.k-high);
-        next_small = omega (arith, mod-lt (get_or firsts q 0 + 1) limits.k-low, limits.k-high);
+        first_small = omega (arith, facts.2, limits.k_high);
+        next_small = omega (arith, mod-lt (get_or firsts q 0 + 1) limits.k_low, limits.k_high);
         has_block = facts.3;
       }
 
@@ -89,8 +89,8 @@ module _ (regs : Regs) (fill : ℕ) (head firsts stored store : List ℕ) (chose
         ++ bytes_for q (take regs.block (drop ((q * regs.depth + r.first) * regs.block) store))) (sym here);
     rings_are =
         rings_stored regs.queues firsts stored q next (get_or stored q 0 - 1) low
-        (omega (arith, f-long, w.first_block.limits.q-high))
-        (omega (arith, c-long, w.first_block.limits.q-high))
+        (omega (arith, f-long, w.first_block.limits.q_high))
+        (omega (arith, c-long, w.first_block.limits.q_high))
         ∙ ap (λ (r : Ring). set rings q (ring ((r.first + 1) % regs.depth) (r.count - 1))) (sym here);
     fill_high = omega arith;
     fits = omega (arith, w.room, came.same_length);

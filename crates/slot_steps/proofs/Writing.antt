@@ -55,12 +55,12 @@ module _ (regs : Regs) (fill : ℕ) (tail firsts stored store : List ℕ) (writt
           limits = limits;
           store_long = long;
           queue_low = facts.0;
-          block_low = mod-lt (get_or firsts q 0 + get_or stored q 0) limits.k-low;
+          block_low = mod-lt (get_or firsts q 0 + get_or stored q 0) limits.k_low;
         };
         bytes_wait = facts.1;
         block_in_fill = omega (arith, facts.1, count_in_fill q fill tail fits);
-        first_small = omega (arith, facts.2, limits.k-high);
-        count_small = omega (arith, facts.3, limits.k-high);
+        first_small = omega (arith, facts.2, limits.k_high);
+        count_small = omega (arith, facts.3, limits.k_high);
       }
 
   pub writes_none : written ≡ Nothing
@@ -85,7 +85,7 @@ module _ (regs : Regs) (fill : ℕ) (tail firsts stored store : List ℕ) (writt
     tail_is = wrote.left;
     rings_are =
         rings_counted regs.queues firsts stored q (get_or stored q 0 + 1) low
-        (omega (arith, c-long, w.next_block.limits.q-high))
+        (omega (arith, c-long, w.next_block.limits.q_high))
         ∙ ap (λ (r : Ring). set rings q (ring r.first (r.count + 1))) (sym here);
     store_is =
         wrote.stored_is

@@ -8,7 +8,7 @@ use native.Mathlib.Omega.{arith}
 use lib.Dec.{eqb, ltb}
 use lib.ListN.{length, get_or, replicate}
 use Rattle.model.specs.Basics.{choose}
-use Rattle.model.proofs.basics.Tests.{by-test}
+use Rattle.model.proofs.basics.Tests.{by_test}
 use Rattle.script_commands.specs.Commands as of
 use Rattle.script_commands.specs.Scripts.{Script, judge}
 use Rattle.script_lines.specs.Lines.{Line, delivery, refusal, refill, ending, fault, letter, line_text, text}
@@ -40,13 +40,13 @@ started zero cs store = a-last_line (slot_lines 0 (script_steps cs store)) _
 started (suc n) cs store = a-line (refusal 0 (suc n)) (ending 0 ∷ [])
 
 judged : (script : Script) (store : List ℕ) → Lettered (judged_lines script store)
-judged script store = by-test (eqb script.number 0)
+judged script store = by_test (eqb script.number 0)
     (λ t. rw t (started (start_number (sizes_of script.commands) store) script.commands store))
     (λ t. rw t (a-line (fault script.number script.offset) []))
 
 pub text-begins : (input : List ℕ) → 68 ≤ get_or (program_text input) 0 0
 unfolding program_text script_lines
-text-begins input = by-test (ltb most_bytes (length input))
+text-begins input = by_test (ltb most_bytes (length input))
     (λ t. rw t (a-line (fault 15 most_bytes) []))
     (λ t. rw t (judged (judge input) (replicate store_lent 0)))
 

@@ -9,7 +9,7 @@ use lib.ListN.{length, take, drop, replicate, length-append}
 use lib.Seq.{take-append_seam}
 use borrow.Author.Tests.{le-ltb}
 use Rattle.model.specs.Basics.{choose}
-use Rattle.model.proofs.basics.Tests.{none-not-some, some_inj, true-not-false}
+use Rattle.model.proofs.basics.Tests.{none_not_some, some_inj, true_not_false}
 use Rattle.io.specs.Counts.{IsPrefixLen}
 use Rattle.program_input.proofs.Within.{counts}
 use Rattle.script_lines.specs.Lines.{text}
@@ -32,7 +32,7 @@ module _ {script store output : List ℕ} (room : output_bound (length script) �
   all_printed = says.answer-is ∙ ap (λ (b : Bool). choose b none (some (length printed))) enough
 
   pub not-too_short : r ≡ TooShort → ⊥
-  not-too_short is = none-not-some (length printed) (sym (ap printed_in is) ∙ all_printed)
+  not-too_short is = none_not_some (length printed) (sym (ap printed_in is) ∙ all_printed)
 
   module _ {n : ℕ} (is : r ≡ Printed n) where
     n_is : n ≡ length printed
@@ -68,5 +68,5 @@ pub none_printed : {input output : List ℕ} {read : ℕ} → IsPrefixLen read i
 none_printed {input} {output} {read} within = record {
   read_within = within;
   printed_within = counts 0 output (omega arith);
-  text-is = λ (e : true ≡ false). absurd (true-not-false true refl e);
+  text-is = λ (e : true ≡ false). absurd (true_not_false true refl e);
 }

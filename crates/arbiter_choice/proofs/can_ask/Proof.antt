@@ -14,7 +14,7 @@ use Rattle.arbiter_choice.proofs.can_ask.Tie as tie
 
 -- A queue below the last is below 64, and so a byte.
 below : (s : tie.Start) → s.args.q < 64
-below s = omega (arith, (in_limits s.args.regs s.requires.0).q-high, s.requires.5)
+below s = omega (arith, (in_limits s.args.regs s.requires.0).q_high, s.requires.5)
 
 abbrev figures : tie.Start → Figures
 figures s =

@@ -59,7 +59,7 @@ cast-t12 : tie.Need-overflow-cast-t12 invariant-loop decreases-loop
 cast-t12 c =
     let loop = c.before.before.before in
     let s = start loop.before in
-    record { fits = omega (arith, (in_limits s.args.regs s.pre.0).q-high, loop.loop.invariant.below) }
+    record { fits = omega (arith, (in_limits s.args.regs s.pre.0).q_high, loop.loop.invariant.below) }
 
 returns : tie.Need-returns invariant-loop decreases-loop
 returns c =

@@ -1,7 +1,7 @@
 -- `owes_request` meets its contract: what is told is told of the request's queue, and without a request of none.
 use mathlib.Core.Path.{ap, sym, ◌∙◌}
 use Rattle.model.specs.Slot.{is_owed}
-use Rattle.model.proofs.basics.Tests.{none-not-some, some_inj}
+use Rattle.model.proofs.basics.Tests.{none_not_some, some_inj}
 use Rattle.layout.specs.Calls.{request_in}
 use Rattle.buffer.specs.Says.{state_of}
 use borrow.Author.Rules.{rules}
@@ -18,7 +18,7 @@ owes-requires : tie.Need-owes-requires
 owes-requires c κs = search rules
 
 returns : tie.Need-returns
-returns c = λ q e. absurd (none-not-some q (sym (ap request_in c.enum_told.given.1) ∙ e))
+returns c = λ q e. absurd (none_not_some q (sym (ap request_in c.enum_told.given.1) ∙ e))
 
 returns-2 : tie.Need-returns-2
 returns-2 c =

@@ -32,7 +32,7 @@ scan-requires : tie.Need-scan-requires
 scan-requires c κs = search rules
 
 few-passed : (c : tie.After-scan) → c.scan.result.passed ≤ cell_places
-few-passed c = omega (arith, c.scan.ensures.1, c.before.before.before.before.cells-within.ensures)
+few-passed c = omega (arith, c.scan.ensures.1, c.before.before.before.before.cells_within.ensures)
 
 add-refill-at : tie.Need-overflow-add-refill-at
 add-refill-at c = omega (arith, few-passed c.before)
@@ -50,7 +50,7 @@ returns c =
     let s = start.args.t1 in
     read_chosen s.regs (arrays_of s) (sym test.before.moves-now.ensures ∙ test.if1.true)
     (head-long start) (cells-long start)
-    smaller.smaller.ensures cells.cells-within.ensures tally.tally.ensures
+    smaller.smaller.ensures cells.cells_within.ensures tally.tally.ensures
     (c.refill-at.ensures ∙ c.before.before.scan.ensures.0)
 
 refill-at-requires-2 : tie.Need-refill-at-requires-2

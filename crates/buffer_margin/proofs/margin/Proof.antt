@@ -8,7 +8,7 @@ use borrow.Author.Rules.{rules}
 use Rattle.model.specs.State.{count_of, owed_of}
 use Rattle.layout.specs.Lengths.{head_places, cell_places}
 use Rattle.layout.specs.Entries.{bytes_in, cells_in}
-use Rattle.buffer_margin.proofs.Counting.{bytes-within, cells_within_lem}
+use Rattle.buffer_margin.proofs.Counting.{bytes-within, cells_within}
 use Rattle.buffer_margin.proofs.Differences.{difference_fits, same-difference}
 use Rattle.buffer_margin.proofs.margin.Statement.{statement}
 use Rattle.buffer_margin.proofs.margin.Tie as tie
@@ -53,9 +53,9 @@ returns c =
     ∙ ap (λ (n : ℕ). count_of q (bytes_in n s.args.head.now)) c.before.before.before.before.smaller.ensures
     ∙ ap (count_of q) (bytes-within s.args.fill head_places s.args.head.now s.requires.0))
     (owed.ensures
-    ∙ ap (λ (n : ℕ). owed_of q (cells_in n s.args.cells.now)) c.before.cells_within_lem.ensures
+    ∙ ap (λ (n : ℕ). owed_of q (cells_in n s.args.cells.now)) c.before.cells_within.ensures
     ∙ ap (owed_of q)
-    (cells_within_lem (s.args.queues * (s.args.block - 1) + 1) cell_places s.args.cells.now s.requires.1)))
+    (cells_within (s.args.queues * (s.args.block - 1) + 1) cell_places s.args.cells.now s.requires.1)))
 
 pub margin-spec : {M : Type 1} → statement M
 margin-spec =

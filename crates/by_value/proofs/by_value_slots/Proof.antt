@@ -8,7 +8,7 @@ use native.Mathlib.Omega.{arith}
 use borrow.Author.Rules.{rules}
 use lib.ListN.{length, get_or, length-map, length-set}
 use Rattle.model.specs.Slot.{Answer}
-use Rattle.model.proofs.basics.Tests.{true-not-false}
+use Rattle.model.proofs.basics.Tests.{true_not_false}
 use Rattle.run_words.specs.Words.{call_of, answer_word}
 use Rattle.run_words.proofs.Nearest.{read_slot}
 use Rattle.run_in_place.proofs.Turns.{RunTo, run-starts, run-turn, call_at}
@@ -35,7 +35,7 @@ returns : tie.Need-returns invariant-loop decreases-loop
 returns c =
     let test = c.before in
     let none = sizes-refused test.before.before.make.ensures test.if1.true in
-    record { refused = λ e. (c.refused.ensures, refl, refl); ran = λ e. absurd (true-not-false _ e none) }
+    record { refused = λ e. (c.refused.ensures, refl, refl); ran = λ e. absurd (true_not_false _ e none) }
 
 smaller-requires : tie.Need-smaller-requires invariant-loop decreases-loop
 smaller-requires c κs = search rules

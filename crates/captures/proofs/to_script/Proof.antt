@@ -6,7 +6,7 @@ use native.Mathlib.Omega.{arith}
 use borrow.Author.Tests.{not-true, not-false, leb-true, leb-false}
 use lib.ListN.{length}
 use Rattle.model.specs.Sizes.{Sizes, sizes, paper_limits, accepts}
-use Rattle.model.proofs.basics.Limits.{Within, within-limits}
+use Rattle.model.proofs.basics.Limits.{Within, within_limits}
 use Rattle.capture_frames.specs.Frames.{header_good}
 use Rattle.captures.proofs.Judged.{Passed, header-long, refuses_1, refuses_19, refuses_17, refuses_18}
 use Rattle.captures.proofs.Judged.{refuses_16, room_found, script-written}
@@ -115,16 +115,16 @@ returns-5 c =
 limits-there : (c : tie.Else4) → Within paper_limits (given-sizes (at-start (measure-before c)))
 limits-there c =
     let counted = measure-before c in
-    within-limits paper_limits (given-sizes (at-start counted)) (passed counted).accepted
+    within_limits paper_limits (given-sizes (at-start counted)) (passed counted).accepted
 
 cast-write-script : tie.Need-overflow-cast-write-script
-cast-write-script c = omega (arith, (limits-there c).q-high)
+cast-write-script c = omega (arith, (limits-there c).q_high)
 
 cast-write-script-2 : tie.Need-overflow-cast-write-script-2
-cast-write-script-2 c = omega (arith, (limits-there c).b-high)
+cast-write-script-2 c = omega (arith, (limits-there c).b_high)
 
 cast-write-script-3 : tie.Need-overflow-cast-write-script-3
-cast-write-script-3 c = omega (arith, (limits-there c).k-high)
+cast-write-script-3 c = omega (arith, (limits-there c).k_high)
 
 sub-write-script : tie.Need-overflow-sub-write-script
 sub-write-script c = omega (arith, long-there (header-before (measure-before c)))

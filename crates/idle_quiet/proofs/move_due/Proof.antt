@@ -36,7 +36,7 @@ fullest-of-requires : tie.Need-fullest-of-requires
 fullest-of-requires c κs =
     let s = c.before in
     let fits = in_limits s.args.regs s.requires.0 in
-    (fits.q-high, s.requires.2, fits.b-low)
+    (fits.q_high, s.requires.2, fits.b_low)
 
 some-queue-requires : tie.Need-some-queue-requires
 some-queue-requires c κs = search rules
@@ -53,7 +53,7 @@ returns c =
 sub-scan : tie.Need-overflow-sub-scan
 sub-scan c =
     let s = start (fullest-found (none-full c.before).before) in
-    (in_limits s.args.regs s.pre.0).b-low
+    (in_limits s.args.regs s.pre.0).b_low
 
 mul-scan : tie.Need-overflow-mul-scan
 mul-scan c =

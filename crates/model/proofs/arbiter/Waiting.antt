@@ -1,6 +1,6 @@
 -- How long a queue waits for the round robin arbiter, over the ideal buffer alone: a queue d places on is asked d slots
 -- later at most. For where it is not asked, the arbiter asked one that comes before it, so that it is fewer places on;
--- and its front byte stays the front. `served-soon` says it, with Q - 1 for d.
+-- and its front byte stays the front. `served_soon` says it, with Q - 1 for d.
 use mathlib.Core.Path.{◌≡◌, ap, sym, ◌∙◌}
 use mathlib.Core.Bool.{Bool, true, false}
 use mathlib.Core.List.{List, [], ◌∷◌}
@@ -16,20 +16,20 @@ use Rattle.model.specs.Slot.{as_byte, arriving}
 use Rattle.model.specs.Lists.{Step, asks, request_at}
 use Rattle.model.specs.Arbiter.{queue_after, first_from, last_after}
 use Rattle.model.specs.Ideal.{waiting_with, next_byte_of}
-use Rattle.model.proofs.basics.Tests.{by-test, some_inj, true-not-false, eqb_same}
-use Rattle.model.proofs.basics.Rounds.{onward, onward-add, next-below, reach, Found, found}
-use Rattle.model.proofs.delay.Line.{first-append}
-use Rattle.model.proofs.delay.Delay.{leftWaiting, gives}
+use Rattle.model.proofs.basics.Tests.{by_test, some_inj, true_not_false, eqb_same}
+use Rattle.model.proofs.basics.Rounds.{onward, onward-add, next_below, reach, Found, found}
+use Rattle.model.proofs.delay.Line.{first_append}
+use Rattle.model.proofs.delay.Delay.{left_waiting, gives}
 
 -- Slots of the ideal buffer whose requests the arbiter chose, from these waiting bytes and this last one asked on.
 abbrev pub waits : (ℕ → List ℕ) → Step → ℕ → Bool
 waits w step q = ltb 0 (length (waiting_with w step.arrival q))
 
 pub data ChosenSlots (Q : ℕ) : (ℕ → List ℕ) → ℕ → List Step → Type 0 where
-  none-chosen : {w : ℕ → List ℕ} {last : ℕ} → ChosenSlots Q w last []
-  one-chosen : {w : ℕ → List ℕ} {last : ℕ} {step : Step} {slots : List Step}
+  none_chosen : {w : ℕ → List ℕ} {last : ℕ} → ChosenSlots Q w last []
+  one_chosen : {w : ℕ → List ℕ} {last : ℕ} {step : Step} {slots : List Step}
       → step.request ≡ first_from Q (waits w step) Q (queue_after Q last)
-      → ChosenSlots Q (leftWaiting w step) (last_after 0 step.request last) slots
+      → ChosenSlots Q (left_waiting w step) (last_after 0 step.request last) slots
       → ChosenSlots Q w last (step ∷ slots)
 
 -- v is the front byte of q in the first of these slots, if there is one.
@@ -44,25 +44,25 @@ pub record Served (w : ℕ → List ℕ) (slots : List Step) (d q v : ℕ) : Typ
   pub not_before : (t : ℕ) → t < wait → request_at slots t ≡ some q → ⊥
   pub gives_it : wait < length slots → get_or (gives w slots) wait none ≡ some (byte q v)
 
-pub front-there : (l : List ℕ) (v : ℕ) → get_elem? l 0 ≡ some v → ltb 0 (length l) ≡ true
-front-there [] v e = absurd (let z : ◌≡◌ {A = ℕ} 0 1 = cc in omega arith)
-front-there (x ∷ l) v e = lt-ltb 0 (suc (length l)) (omega arith)
+pub front_there : (l : List ℕ) (v : ℕ) → get_elem? l 0 ≡ some v → ltb 0 (length l) ≡ true
+front_there [] v e = absurd (let z : ◌≡◌ {A = ℕ} 0 1 = cc in omega arith)
+front_there (x ∷ l) v e = lt-ltb 0 (suc (length l)) (omega arith)
 
 -- The front byte stays the front until its queue is asked.
-front-stays : (w : ℕ → List ℕ) (step : Step) (slots : List Step) (q v c : ℕ) → step.request ≡ some c
+front_stays : (w : ℕ → List ℕ) (step : Step) (slots : List Step) (q v c : ℕ) → step.request ≡ some c
     → eqb c q ≡ false → get_elem? (waiting_with w step.arrival q) 0 ≡ some v
-    → FrontNow (leftWaiting w step) slots q v
-front-stays w step [] q v c r u e = tt
-front-stays w step (next ∷ slots) q v c r u e =
-    first-append (leftWaiting w step q) (values_of q (arriving next.arrival))
+    → FrontNow (left_waiting w step) slots q v
+front_stays w step [] q v c r u e = tt
+front_stays w step (next ∷ slots) q v c r u e =
+    first_append (left_waiting w step q) (values_of q (arriving next.arrival))
     (omega (
       arith,
       ap length same,
-      ltb-true 0 (length (waiting_with w step.arrival q)) (front-there (waiting_with w step.arrival q) v e),
+      ltb-true 0 (length (waiting_with w step.arrival q)) (front_there (waiting_with w step.arrival q) v e),
     ))
     ∙ ap (λ (l : List ℕ). get_elem? l 0) same ∙ e
   where
-    same : leftWaiting w step q ≡ waiting_with w step.arrival q
+    same : left_waiting w step q ≡ waiting_with w step.arrival q
     same =
         ap (λ (o : Option ℕ). drop (asks q o) (waiting_with w step.arrival q)) r
         ∙ ap (λ (b : Bool). drop (choose b 1 0) (waiting_with w step.arrival q)) u
@@ -72,10 +72,10 @@ module _ (Q d : ℕ) (w : ℕ → List ℕ) (last : ℕ) (step : Step) (slots : 
     (there : onward Q d (queue_after Q last) ≡ q) (r : step.request ≡ first_from Q (waits w step) Q (queue_after Q last))
     (front : FrontNow w (step ∷ slots) q v)
     (on : (e : ℕ) → e < Q → onward Q e (queue_after Q (last_after 0 step.request last)) ≡ q
-    → FrontNow (leftWaiting w step) slots q v → Served (leftWaiting w step) slots e q v) where
+    → FrontNow (left_waiting w step) slots q v → Served (left_waiting w step) slots e q v) where
   near : Found Q (waits w step) Q (queue_after Q last) d
   near = found Q (waits w step) Q (queue_after Q last) d m
-      (ap (waits w step) there ∙ front-there (waiting_with w step.arrival q) v front)
+      (ap (waits w step) there ∙ front_there (waiting_with w step.arrival q) v front)
 
   abbrev c : ℕ
   c = onward Q near.place (queue_after Q last)
@@ -97,18 +97,18 @@ module _ (Q d : ℕ) (w : ℕ → List ℕ) (last : ℕ) (step : Step) (slots : 
 
   nearer : eqb c q ≡ false → near.place < d
   nearer u =
-      by-test (ltb near.place d)
+      by_test (ltb near.place d)
       (λ t. ltb-true near.place d t)
-      (λ t. absurd (not-q (omega (arith, near.no-later, ltb-false near.place d t))))
+      (λ t. absurd (not-q (omega (arith, near.no_later, ltb-false near.place d t))))
     where
       not-q : near.place ≡ d → ⊥
       not-q e =
-          true-not-false (eqb c q)
+          true_not_false (eqb c q)
           (ap (λ (n : ℕ). eqb (onward Q n (queue_after Q last)) q) e ∙ ap (λ (n : ℕ). eqb n q) there ∙ eqb_same q) u
 
   asked-later : eqb c q ≡ false → Served w (step ∷ slots) d q v
   asked-later u =
-      let s = on less (omega (arith, m)) still (front-stays w step slots q v c asks-c u front) in record {
+      let s = on less (omega (arith, m)) still (front_stays w step slots q v c asks-c u front) in record {
         wait = suc s.wait;
         within = omega (arith, s.within, nearer u);
         asked = λ z. s.asked (omega (arith, z));
@@ -119,10 +119,10 @@ module _ (Q d : ℕ) (w : ℕ → List ℕ) (last : ℕ) (step : Step) (slots : 
       less : ℕ
       less = d - suc near.place
 
-      before : {e : ℕ} (s : Served (leftWaiting w step) slots e q v) (t : ℕ) → t < suc s.wait
+      before : {e : ℕ} (s : Served (left_waiting w step) slots e q v) (t : ℕ) → t < suc s.wait
           → request_at (step ∷ slots) t ≡ some q → ⊥
       before s zero l e =
-          true-not-false (eqb c q) (eq-eqb c q (some_inj c q (sym asks-c ∙ e))) u
+          true_not_false (eqb c q) (eq-eqb c q (some_inj c q (sym asks-c ∙ e))) u
       before s (suc t) l e = s.not_before t (omega arith) e
 
       still : onward Q less (queue_after Q (last_after 0 step.request last)) ≡ q
@@ -134,27 +134,27 @@ module _ (Q d : ℕ) (w : ℕ → List ℕ) (last : ℕ) (step : Step) (slots : 
           (let z : near.place + 1 + less ≡ d = omega (arith, nearer u) in z)
           ∙ there
 
-  served-from-here : Served w (step ∷ slots) d q v
-  served-from-here = by-test (eqb c q) asked-now asked-later
+  served_from_here : Served w (step ∷ slots) d q v
+  served_from_here = by_test (eqb c q) asked-now asked-later
 
 served : (Q : ℕ) {w : ℕ → List ℕ} {last : ℕ} {slots : List Step} (d q v : ℕ) → d < Q
     → onward Q d (queue_after Q last) ≡ q → ChosenSlots Q w last slots → FrontNow w slots q v → Served w slots d q v
-served Q d q v m there none-chosen front = record {
+served Q d q v m there none_chosen front = record {
   wait = 0;
   within = omega arith;
   asked = λ z. absurd (omega (arith, z));
   not_before = λ t l. absurd (omega (arith, l));
   gives_it = λ z. absurd (omega (arith, z));
 }
-served Q d q v m there (one-chosen {w = w} {last = last} {step = step} {slots = slots} r rest) front =
-    served-from-here Q d w last step slots q v m there r front
+served Q d q v m there (one_chosen {w = w} {last = last} {step = step} {slots = slots} r rest) front =
+    served_from_here Q d w last step slots q v m there r front
     (λ e k still stays. served Q e q v k still rest stays)
 
 -- Within a round.
-pub served-soon : (Q : ℕ) {w : ℕ → List ℕ} {last : ℕ} {slots : List Step} (q v : ℕ) → last < Q → q < Q
+pub served_soon : (Q : ℕ) {w : ℕ → List ℕ} {last : ℕ} {slots : List Step} (q v : ℕ) → last < Q → q < Q
     → ChosenSlots Q w last slots → FrontNow w slots q v → Served w slots (Q - 1) q v
-served-soon Q {w} {last} {slots} q v k h chosen front =
-    let r = reach Q (queue_after Q last) q (next-below Q last (omega (arith, k))) h in
+served_soon Q {w} {last} {slots} q v k h chosen front =
+    let r = reach Q (queue_after Q last) q (next_below Q last (omega (arith, k))) h in
     let s = served Q r.steps q v r.few r.is_there chosen front in record {
       wait = s.wait;
       within = omega (arith, s.within, r.few);

@@ -9,16 +9,16 @@ use lib.ListN.{length, replicate, drop}
 use borrow.Author.Tests.{eqb-true, ltb-true, lt-ltb}
 use Rattle.model.specs.Basics.{all_of, All}
 use Rattle.model.specs.State.{Cell, empty, held, owed, owes, owed_of, cell_below}
-use Rattle.model.proofs.basics.Tests.{by-test, eqb_same}
-use Rattle.model.proofs.basics.AllOf.{all-of-facts, all-of-holds}
+use Rattle.model.proofs.basics.Tests.{by_test, eqb_same}
+use Rattle.model.proofs.basics.AllOf.{all_of_facts, all_of_holds}
 use Rattle.model.proofs.basics.Sums.{sum, sum-zero, sum-shift}
 
-pub owed-append : (q : ℕ) (xs ys : List Cell) → owed_of q (xs ++ ys) ≡ owed_of q xs + owed_of q ys
-owed-append q [] ys = omega arith
-owed-append q (x ∷ xs) ys = omega (arith, owed-append q xs ys)
+pub owed_append : (q : ℕ) (xs ys : List Cell) → owed_of q (xs ++ ys) ≡ owed_of q xs + owed_of q ys
+owed_append q [] ys = omega arith
+owed_append q (x ∷ xs) ys = omega (arith, owed_append q xs ys)
 
-pub owed-here : (q : ℕ) (cells : List Cell) → owed_of q (owed q ∷ cells) ≡ suc (owed_of q cells)
-owed-here q cells = rw (eqb_same q) (omega arith)
+pub owed_here : (q : ℕ) (cells : List Cell) → owed_of q (owed q ∷ cells) ≡ suc (owed_of q cells)
+owed_here q cells = rw (eqb_same q) (omega arith)
 
 -- All cells are of queues below n; as a test, of n or of any greater number.
 abbrev pub CellBelow : ℕ → Cell → Type 0
@@ -29,62 +29,62 @@ CellBelow n (owed q) = q < n
 abbrev pub CellsBelow : ℕ → List Cell → Type 0
 CellsBelow n cells = All (CellBelow n) cells
 
-pub cells-below-facts : (n : ℕ) (cells : List Cell) → all_of (cell_below n) cells ≡ true → CellsBelow n cells
-cells-below-facts n cells e = all-of-facts (cell_below n) (CellBelow n) one cells e
+pub cells_below_facts : (n : ℕ) (cells : List Cell) → all_of (cell_below n) cells ≡ true → CellsBelow n cells
+cells_below_facts n cells e = all_of_facts (cell_below n) (CellBelow n) one cells e
   where
     one : (c : Cell) → cell_below n c ≡ true → CellBelow n c
     one empty t = tt
     one (held q v) t = ltb-true q n t
     one (owed q) t = ltb-true q n t
 
-pub cells-below-holds : (n m : ℕ) → n ≤ m → (cells : List Cell) → CellsBelow n cells → all_of (cell_below m) cells ≡ true
-cells-below-holds n m h cells w = all-of-holds (cell_below m) (CellBelow n) one cells w
+pub cells_below_holds : (n m : ℕ) → n ≤ m → (cells : List Cell) → CellsBelow n cells → all_of (cell_below m) cells ≡ true
+cells_below_holds n m h cells w = all_of_holds (cell_below m) (CellBelow n) one cells w
   where
     one : (c : Cell) → CellBelow n c → cell_below m c ≡ true
     one empty l = refl
     one (held q v) l = lt-ltb q m (omega (arith, h, l))
     one (owed q) l = lt-ltb q m (omega (arith, h, l))
 
-pub cells-below-drop : (n : ℕ) (cells : List Cell) → CellsBelow n cells → CellsBelow n (drop 1 cells)
-cells-below-drop n [] h = h
-cells-below-drop n (c ∷ cells) h = h.1
+pub cells_below_drop : (n : ℕ) (cells : List Cell) → CellsBelow n cells → CellsBelow n (drop 1 cells)
+cells_below_drop n [] h = h
+cells_below_drop n (c ∷ cells) h = h.1
 
 -- A queue with an Owed cell is below n.
-pub owed-below : (n : ℕ) (cells : List Cell) (q : ℕ) → CellsBelow n cells → 1 ≤ owed_of q cells → q < n
-owed-below n [] q w h = absurd (omega arith)
-owed-below n (empty ∷ cells) q w h = owed-below n cells q w.1 (omega arith)
-owed-below n (held p v ∷ cells) q w h = owed-below n cells q w.1 (omega arith)
-owed-below n (owed p ∷ cells) q w h =
-    by-test (eqb p q)
+pub owed_below : (n : ℕ) (cells : List Cell) (q : ℕ) → CellsBelow n cells → 1 ≤ owed_of q cells → q < n
+owed_below n [] q w h = absurd (omega arith)
+owed_below n (empty ∷ cells) q w h = owed_below n cells q w.1 (omega arith)
+owed_below n (held p v ∷ cells) q w h = owed_below n cells q w.1 (omega arith)
+owed_below n (owed p ∷ cells) q w h =
+    by_test (eqb p q)
     (λ t. omega (arith, eqb-true p q t, w.0))
-    (λ t. owed-below n cells q w.1 (omega (arith, rw t at h)))
+    (λ t. owed_below n cells q w.1 (omega (arith, rw t at h)))
 
-pub owed-above : (n : ℕ) (cells : List Cell) (q : ℕ) → CellsBelow n cells → n ≤ q → owed_of q cells ≡ 0
-owed-above n cells q w l = go (owed_of q cells) refl
+pub owed_above : (n : ℕ) (cells : List Cell) (q : ℕ) → CellsBelow n cells → n ≤ q → owed_of q cells ≡ 0
+owed_above n cells q w l = go (owed_of q cells) refl
   where
     go : (k : ℕ) → owed_of q cells ≡ k → k ≡ 0
     go zero e = refl
-    go (suc k) e = absurd (omega (arith, owed-below n cells q w (omega (arith, e))))
+    go (suc k) e = absurd (omega (arith, owed_below n cells q w (omega (arith, e))))
 
 -- The Owed cells of all queues.
-abbrev pub isOwing : Cell → ℕ
-isOwing empty = 0
-isOwing (held q v) = 0
-isOwing (owed q) = 1
+abbrev pub is_owing : Cell → ℕ
+is_owing empty = 0
+is_owing (held q v) = 0
+is_owing (owed q) = 1
 
 abbrev pub all_owed : List Cell → ℕ
 all_owed [] = 0
-all_owed (c ∷ cells) = isOwing c + all_owed cells
+all_owed (c ∷ cells) = is_owing c + all_owed cells
 
-pub all-owed-append : (xs ys : List Cell) → all_owed (xs ++ ys) ≡ all_owed xs + all_owed ys
-all-owed-append [] ys = omega arith
-all-owed-append (x ∷ xs) ys = omega (arith, all-owed-append xs ys)
+pub all_owed_append : (xs ys : List Cell) → all_owed (xs ++ ys) ≡ all_owed xs + all_owed ys
+all_owed_append [] ys = omega arith
+all_owed_append (x ∷ xs) ys = omega (arith, all_owed_append xs ys)
 
-pub all-owed-length : (cells : List Cell) → all_owed cells ≤ length cells
-all-owed-length [] = omega arith
-all-owed-length (empty ∷ cells) = omega (arith, all-owed-length cells)
-all-owed-length (held q v ∷ cells) = omega (arith, all-owed-length cells)
-all-owed-length (owed q ∷ cells) = omega (arith, all-owed-length cells)
+pub all_owed_length : (cells : List Cell) → all_owed cells ≤ length cells
+all_owed_length [] = omega arith
+all_owed_length (empty ∷ cells) = omega (arith, all_owed_length cells)
+all_owed_length (held q v ∷ cells) = omega (arith, all_owed_length cells)
+all_owed_length (owed q ∷ cells) = omega (arith, all_owed_length cells)
 
 pub sum_owed : (n : ℕ) (cells : List Cell) → CellsBelow n cells → sum n (λ q. owed_of q cells) ≡ all_owed cells
 sum_owed n [] h = sum-zero n (λ q. 0) (λ q. refl)
@@ -112,14 +112,14 @@ sum_owed n (owed p ∷ cells) h =
     )
 
 -- A fresh lookahead owes nothing.
-pub owed-empties : (n q : ℕ) → owed_of q (replicate n empty) ≡ 0
-owed-empties zero q = refl
-owed-empties (suc n) q = omega (arith, owed-empties n q)
+pub owed_empties : (n q : ℕ) → owed_of q (replicate n empty) ≡ 0
+owed_empties zero q = refl
+owed_empties (suc n) q = omega (arith, owed_empties n q)
 
-pub all-owed-empties : (n : ℕ) → all_owed (replicate n empty) ≡ 0
-all-owed-empties zero = refl
-all-owed-empties (suc n) = omega (arith, all-owed-empties n)
+pub all_owed_empties : (n : ℕ) → all_owed (replicate n empty) ≡ 0
+all_owed_empties zero = refl
+all_owed_empties (suc n) = omega (arith, all_owed_empties n)
 
-pub cells-below-empties : (b n : ℕ) → CellsBelow b (replicate n empty)
-cells-below-empties b zero = tt
-cells-below-empties b (suc n) = (tt, cells-below-empties b n)
+pub cells_below_empties : (b n : ℕ) → CellsBelow b (replicate n empty)
+cells_below_empties b zero = tt
+cells_below_empties b (suc n) = (tt, cells_below_empties b n)

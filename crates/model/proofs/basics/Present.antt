@@ -16,11 +16,11 @@ abbrev pub present : {A : Type 0} → List (Option A) → ℕ
 present [] = 0
 present (o ∷ os) = one o + present os
 
-pub present-take : {A : Type 0} (n : ℕ) (os : List (Option A)) → present (take n os) ≤ present os
-present-take zero os = omega arith
-present-take (suc n) [] = omega arith
-present-take (suc n) (o ∷ os) = omega (arith, present-take n os)
+pub present_take : {A : Type 0} (n : ℕ) (os : List (Option A)) → present (take n os) ≤ present os
+present_take zero os = omega arith
+present_take (suc n) [] = omega arith
+present_take (suc n) (o ∷ os) = omega (arith, present_take n os)
 
-pub present-behind-none : {A : Type 0} (n : ℕ) (os : List (Option A)) → present (replicate n none ++ os) ≡ present os
-present-behind-none zero os = refl
-present-behind-none (suc n) os = omega (arith, present-behind-none n os)
+pub present_behind_none : {A : Type 0} (n : ℕ) (os : List (Option A)) → present (replicate n none ++ os) ≡ present os
+present_behind_none zero os = refl
+present_behind_none (suc n) os = omega (arith, present_behind_none n os)

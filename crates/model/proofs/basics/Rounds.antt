@@ -1,6 +1,6 @@
 -- Counting queues up and wrapping: d queues on from q is q + d, taken modulo Q (`onward-is`), so that every queue comes
 -- within a round (`reach`); and the first of some queues of which a test holds is no later than any of which it holds
--- (`found`), with none before it (`first-at`).
+-- (`found`), with none before it (`first_at`).
 use mathlib.Core.Path.{◌≡◌, refl, ap, sym, ◌∙◌, subst}
 use mathlib.Core.Bool.{Bool, true, false}
 use mathlib.Core.Option.{some, none}
@@ -11,7 +11,7 @@ use lib.Dec.{ltb}
 use borrow.Author.Tests.{ltb-true, ltb-false, lt-ltb, le-ltb}
 use Rattle.model.specs.Basics.{choose}
 use Rattle.model.specs.Arbiter.{queue_after, first_from}
-use Rattle.model.proofs.basics.Tests.{by-test, some_inj, none-not-some}
+use Rattle.model.proofs.basics.Tests.{by_test, some_inj, none_not_some}
 
 -- d queues on from q.
 abbrev pub onward : ℕ → ℕ → ℕ → ℕ
@@ -24,26 +24,26 @@ onward-add Q (suc d) e q =
     ap (λ (n : ℕ). onward Q n q) (let z : suc d + e ≡ suc (d + e) = omega arith in z)
     ∙ onward-add Q d e (queue_after Q q)
 
-next-wraps : (Q q : ℕ) → suc q ≡ Q → queue_after Q q ≡ 0
-next-wraps Q q e = rw (le-ltb (suc q) Q (omega (arith, e)))
+next_wraps : (Q q : ℕ) → suc q ≡ Q → queue_after Q q ≡ 0
+next_wraps Q q e = rw (le-ltb (suc q) Q (omega (arith, e)))
 
 next_up : (Q q : ℕ) → suc q < Q → queue_after Q q ≡ suc q
 next_up Q q l = rw (lt-ltb (suc q) Q l)
 
-pub next-below : (Q q : ℕ) → 1 ≤ Q → queue_after Q q < Q
-next-below Q q l =
-    by-test (ltb (suc q) Q)
+pub next_below : (Q q : ℕ) → 1 ≤ Q → queue_after Q q < Q
+next_below Q q l =
+    by_test (ltb (suc q) Q)
     (λ t. rw t (ltb-true (suc q) Q t))
     (λ t. rw t (omega (arith, l)))
 
 pub onward-is : (Q d q : ℕ) → q < Q → onward Q d q ≡ (q + d) % Q
 onward-is Q zero q l = sym (ap (λ (n : ℕ). n % Q) (let e : q + 0 ≡ q = omega arith in e) ∙ mod-eq_of_lt l)
 onward-is Q (suc d) q l =
-    by-test (ltb (suc q) Q)
+    by_test (ltb (suc q) Q)
     (λ t. ap (onward Q d) (next_up Q q (ltb-true (suc q) Q t))
     ∙ onward-is Q d (suc q) (ltb-true (suc q) Q t)
     ∙ ap (λ (n : ℕ). n % Q) (let e : suc q + d ≡ q + suc d = omega arith in e))
-    (λ t. ap (onward Q d) (next-wraps Q q (omega (arith, l, ltb-false (suc q) Q t)))
+    (λ t. ap (onward Q d) (next_wraps Q q (omega (arith, l, ltb-false (suc q) Q t)))
     ∙ onward-is Q d 0 (omega (arith, l))
     ∙ ap (λ (n : ℕ). n % Q) (let e : 0 + d ≡ d = omega arith in e)
     ∙ sym (add-mod_right d Q)
@@ -60,7 +60,7 @@ pub record Reached (Q start q : ℕ) : Type 0 where
 
 pub reach : (Q start q : ℕ) → start < Q → q < Q → Reached Q start q
 reach Q start q l m =
-    by-test (ltb q start)
+    by_test (ltb q start)
     (λ t. wrapped (ltb-true q start t))
     (λ t. record {
       steps = q - start;
@@ -84,19 +84,19 @@ reach Q start q l m =
 -- The first queue found is no later than one of which the test holds.
 pub record Found (Q : ℕ) (test : ℕ → Bool) (n start d : ℕ) : Type 0 where
   pub place : ℕ
-  pub no-later : place ≤ d
+  pub no_later : place ≤ d
   pub found-is : first_from Q test n start ≡ some (onward Q place start)
 
 pub found : (Q : ℕ) (test : ℕ → Bool) (n start d : ℕ) → d < n → test (onward Q d start) ≡ true
     → Found Q test n start d
 found Q test zero start d l t = absurd (omega arith)
-found Q test (suc n) start zero l t = record { place = 0; no-later = omega arith; found-is = rw t }
+found Q test (suc n) start zero l t = record { place = 0; no_later = omega arith; found-is = rw t }
 found Q test (suc n) start (suc d) l t =
-    by-test (test start)
-    (λ u. record { place = 0; no-later = omega arith; found-is = rw u })
+    by_test (test start)
+    (λ u. record { place = 0; no_later = omega arith; found-is = rw u })
     (λ u. let f = found Q test n (queue_after Q start) d (omega arith) t in record {
       place = suc f.place;
-      no-later = omega (arith, f.no-later);
+      no_later = omega (arith, f.no_later);
       found-is = ap (λ (b : Bool). choose b (some start) (first_from Q test n (queue_after Q start))) u ∙ f.found-is;
     })
 
@@ -108,11 +108,11 @@ pub record FirstAt (Q : ℕ) (test : ℕ → Bool) (n start q : ℕ) : Type 0 wh
   pub holds : test q ≡ true
   pub none_before : (d : ℕ) → d < place → test (onward Q d start) ≡ false
 
-pub first-at : (Q : ℕ) (test : ℕ → Bool) (n start q : ℕ) → first_from Q test n start ≡ some q
+pub first_at : (Q : ℕ) (test : ℕ → Bool) (n start q : ℕ) → first_from Q test n start ≡ some q
     → FirstAt Q test n start q
-first-at Q test zero start q e = absurd (none-not-some q e)
-first-at Q test (suc n) start q e =
-    by-test (test start) here (λ u. later u (first-at Q test n (queue_after Q start) q (look u)))
+first_at Q test zero start q e = absurd (none_not_some q e)
+first_at Q test (suc n) start q e =
+    by_test (test start) here (λ u. later u (first_at Q test n (queue_after Q start) q (look u)))
   where
     look : {b : Bool} → test start ≡ b → choose b (some start) (first_from Q test n (queue_after Q start)) ≡ some q
     look u = sym (ap (λ (c : Bool). choose c (some start) (first_from Q test n (queue_after Q start))) u) ∙ e
@@ -139,11 +139,11 @@ first-at Q test (suc n) start q e =
         before zero l = u
         before (suc d) l = f.none_before d (omega arith)
 
-pub first-none : (Q : ℕ) (test : ℕ → Bool) (n start d : ℕ) → first_from Q test n start ≡ none → d < n
+pub first_none : (Q : ℕ) (test : ℕ → Bool) (n start d : ℕ) → first_from Q test n start ≡ none → d < n
     → test (onward Q d start) ≡ false
-first-none Q test n start d e l =
-    by-test (test (onward Q d start))
-    (λ t. absurd (let f = found Q test n start d l t in none-not-some _ (sym e ∙ f.found-is)))
+first_none Q test n start d e l =
+    by_test (test (onward Q d start))
+    (λ t. absurd (let f = found Q test n start d l t in none_not_some _ (sym e ∙ f.found-is)))
     (λ t. t)
 
 pub none_found : (Q : ℕ) (test : ℕ → Bool) (n start : ℕ) → start < Q → ((q : ℕ) → q < Q → test q ≡ false)
@@ -151,15 +151,15 @@ pub none_found : (Q : ℕ) (test : ℕ → Bool) (n start : ℕ) → start < Q �
 none_found Q test zero start l f = refl
 none_found Q test (suc n) start l f =
     ap (λ (b : Bool). choose b (some start) (first_from Q test n (queue_after Q start))) (f start l)
-    ∙ none_found Q test n (queue_after Q start) (next-below Q start (omega (arith, l))) f
+    ∙ none_found Q test n (queue_after Q start) (next_below Q start (omega (arith, l))) f
 
 -- It is one of the Q, and tests that agree on those find the same.
 pub first_below : (Q : ℕ) (test : ℕ → Bool) (n start q : ℕ) → start < Q → first_from Q test n start ≡ some q → q < Q
-first_below Q test zero start q l e = absurd (none-not-some q e)
+first_below Q test zero start q l e = absurd (none_not_some q e)
 first_below Q test (suc n) start q l e =
-    by-test (test start)
+    by_test (test start)
     (λ t. subst (λ (p : ℕ). p < Q) (some_inj start q (sym (look t) ∙ e)) l)
-    (λ t. first_below Q test n (queue_after Q start) q (next-below Q start (omega (arith, l))) (sym (look t) ∙ e))
+    (λ t. first_below Q test n (queue_after Q start) q (next_below Q start (omega (arith, l))) (sym (look t) ∙ e))
   where
     look : {b : Bool} → test start ≡ b
         → first_from Q test (suc n) start ≡ choose b (some start) (first_from Q test n (queue_after Q start))
@@ -171,4 +171,4 @@ first_alike Q test other zero start l f = refl
 first_alike Q test other (suc n) start l f =
     ap (λ (b : Bool). choose b (some start) (first_from Q test n (queue_after Q start))) (f start l)
     ∙ ap (choose (other start) (some start))
-    (first_alike Q test other n (queue_after Q start) (next-below Q start (omega (arith, l))) f)
+    (first_alike Q test other n (queue_after Q start) (next_below Q start (omega (arith, l))) f)

@@ -7,7 +7,7 @@ use native.Mathlib.Omega.{arith}
 use lib.Dec.{eqb}
 use borrow.Author.Tests.{eqb-true, eqb-false}
 use Rattle.model.specs.Basics.{update}
-use Rattle.model.proofs.basics.Tests.{by-test, update_same, update_other}
+use Rattle.model.proofs.basics.Tests.{by_test, update_same, update_other}
 
 abbrev pub sum : ℕ → (ℕ → ℕ) → ℕ
 sum zero f = 0
@@ -18,16 +18,16 @@ sum-zero zero f h = refl
 sum-zero (suc n) f h = omega (arith, h n, sum-zero n f h)
 
 -- f is at most g and d more at each queue.
-pub sum-le-add : (n d : ℕ) (f g : ℕ → ℕ) → ((q : ℕ) → q < n → f q ≤ g q + d) → sum n f ≤ sum n g + n * d
-sum-le-add zero d f g h = omega arith
-sum-le-add (suc n) d f g h = omega (arith, h n (omega arith), sum-le-add n d f g (λ q l. h q (omega arith)))
+pub sum-le_add : (n d : ℕ) (f g : ℕ → ℕ) → ((q : ℕ) → q < n → f q ≤ g q + d) → sum n f ≤ sum n g + n * d
+sum-le_add zero d f g h = omega arith
+sum-le_add (suc n) d f g h = omega (arith, h n (omega arith), sum-le_add n d f g (λ q l. h q (omega arith)))
 
 pub sum-le : (n : ℕ) (f g : ℕ → ℕ) → ((q : ℕ) → q < n → f q ≤ g q) → sum n f ≤ sum n g
-sum-le n f g h = omega (arith, sum-le-add n 0 f g (λ q l. omega (arith, h q l)))
+sum-le n f g h = omega (arith, sum-le_add n 0 f g (λ q l. omega (arith, h q l)))
 
 pub sum_bound : (n d : ℕ) (f : ℕ → ℕ) → ((q : ℕ) → q < n → f q ≤ d) → sum n f ≤ n * d
 sum_bound n d f h = omega
-    (arith, sum-le-add n d f (λ q. 0) (λ q l. omega (arith, h q l)), sum-zero n (λ q. 0) (λ q. refl))
+    (arith, sum-le_add n d f (λ q. 0) (λ q l. omega (arith, h q l)), sum-zero n (λ q. 0) (λ q. refl))
 
 pub sum_same : (n : ℕ) (f g : ℕ → ℕ) → ((q : ℕ) → q < n → f q ≡ g q) → sum n f ≡ sum n g
 sum_same zero f g h = refl
@@ -49,7 +49,7 @@ pub sum-shift : (n : ℕ) (f g : ℕ → ℕ) (q more less : ℕ) → q < n
     → sum n g + more ≡ sum n f + less
 sum-shift zero f g q more less l e h = omega arith
 sum-shift (suc n) f g q more less l e h =
-    by-test (eqb q n)
+    by_test (eqb q n)
     (λ t. let z : q ≡ n = eqb-true q n t in omega (arith, same n (omega arith), ap g z, ap f z))
     (λ t. omega (arith, h n t, sum-shift n f g q more less (omega (arith, eqb-false q n t)) e h))
   where
@@ -59,12 +59,12 @@ sum-shift (suc n) f g q more less l e h =
         omega (arith, same m (omega arith), h m (ne q m (omega arith)))
       where
         ne : (i j : ℕ) → j < i → eqb i j ≡ false
-        ne i j l = by-test (eqb i j) (λ t. absurd (omega (arith, eqb-true i j t))) (λ t. t)
+        ne i j l = by_test (eqb i j) (λ t. absurd (omega (arith, eqb-true i j t))) (λ t. t)
 
 -- Bounded by d at each queue, and 0 at one of them.
-pub sum-bound-zero : (n d : ℕ) (f : ℕ → ℕ) (q : ℕ) → q < n → f q ≡ 0 → ((p : ℕ) → p < n → f p ≤ d)
+pub sum-bound_zero : (n d : ℕ) (f : ℕ → ℕ) (q : ℕ) → q < n → f q ≡ 0 → ((p : ℕ) → p < n → f p ≤ d)
     → sum n f + d ≤ n * d
-sum-bound-zero n d f q l z h =
+sum-bound_zero n d f q l z h =
     omega (
       arith,
       sum_bound n d (update f q d) bound,
@@ -72,7 +72,7 @@ sum-bound-zero n d f q l z h =
     )
   where
     bound : (p : ℕ) → p < n → update f q d p ≤ d
-    bound p k = by-test (eqb q p) (λ t. rw t (omega arith)) (λ t. rw t (h p k))
+    bound p k = by_test (eqb q p) (λ t. rw t (omega arith)) (λ t. rw t (h p k))
 
 pub sum_ones : (n : ℕ) (f : ℕ → ℕ) → ((q : ℕ) → q < n → f q ≡ 1) → sum n f ≡ n
 sum_ones zero f h = refl

@@ -9,21 +9,21 @@ use borrow.Author.Tests.{eqb-true, eq-eqb, leb-true, le-leb}
 use Rattle.model.specs.Basics.{update, between}
 
 -- Cases of a value, each with the equation that it stands for.
-pub by-test : {A : Type 0} (t : Bool) → (t ≡ true → A) → (t ≡ false → A) → A
-by-test true yes-case no-case = yes-case refl
-by-test false yes-case no-case = no-case refl
+pub by_test : {A : Type 0} (t : Bool) → (t ≡ true → A) → (t ≡ false → A) → A
+by_test true yes_case no_case = yes_case refl
+by_test false yes_case no_case = no_case refl
 
 pub by_zero : {A : Type 0} (n : ℕ) → (n ≡ 0 → A) → (1 ≤ n → A) → A
 by_zero zero at_zero above = at_zero refl
 by_zero (suc n) at_zero above = above (omega arith)
 
-pub by-option : {A B : Type 0} (o : Option B) → (o ≡ none → A) → ((y : B) → o ≡ some y → A) → A
-by-option none at_none at_some = at_none refl
-by-option (some y) at_none at_some = at_some y refl
+pub by_option : {A B : Type 0} (o : Option B) → (o ≡ none → A) → ((y : B) → o ≡ some y → A) → A
+by_option none at_none at_some = at_none refl
+by_option (some y) at_none at_some = at_some y refl
 
 -- A fact of every queue, from the fact at q and at every other queue.
-pub at-queue : (P : ℕ → Type 0) (q : ℕ) → P q → ((p : ℕ) → eqb q p ≡ false → P p) → (p : ℕ) → P p
-at-queue P q here there p = by-test (eqb q p) (λ t. subst P (eqb-true q p t) here) (λ t. there p t)
+pub at_queue_lem : (P : ℕ → Type 0) (q : ℕ) → P q → ((p : ℕ) → eqb q p ≡ false → P p) → (p : ℕ) → P p
+at_queue_lem P q here there p = by_test (eqb q p) (λ t. subst P (eqb-true q p t) here) (λ t. there p t)
 
 pub positive : (n : ℕ) → (n ≡ 0 → ⊥) → 1 ≤ n
 positive zero h = absurd (h refl)
@@ -32,14 +32,14 @@ positive (suc n) h = omega arith
 pub eqb_same : (q : ℕ) → eqb q q ≡ true
 eqb_same q = eq-eqb q q refl
 
-pub none-not-some : {A : Type 0} (y : A) → ◌≡◌ {A = Option A} none (some y) → ⊥
-none-not-some y e = let z : ◌≡◌ {A = ℕ} 0 1 = cc in omega arith
+pub none_not_some : {A : Type 0} (y : A) → ◌≡◌ {A = Option A} none (some y) → ⊥
+none_not_some y e = let z : ◌≡◌ {A = ℕ} 0 1 = cc in omega arith
 
 pub some_inj : {A : Type 0} (x y : A) → some x ≡ some y → x ≡ y
 some_inj x y e = cc
 
-pub true-not-false : (t : Bool) → t ≡ true → t ≡ false → ⊥
-true-not-false t e f = let z : ◌≡◌ {A = ℕ} 0 1 = cc in omega arith
+pub true_not_false : (t : Bool) → t ≡ true → t ≡ false → ⊥
+true_not_false t e f = let z : ◌≡◌ {A = ℕ} 0 1 = cc in omega arith
 
 -- A function changed at one place.
 pub update_same : {A : Type 0} (f : ℕ → A) (q : ℕ) (v : A) → update f q v q ≡ v
@@ -58,7 +58,7 @@ and_left false t e = e
 
 pub and_right : (s t : Bool) → (s && t) ≡ true → t ≡ true
 and_right true t e = e
-and_right false t e = absurd (true-not-false false e refl)
+and_right false t e = absurd (true_not_false false e refl)
 
 pub between-facts : (low n high : ℕ) → between low n high ≡ true → (low ≤ n) × (n ≤ high)
 between-facts low n high e =

@@ -1,7 +1,7 @@
 -- The fixed delay. The accepted slots of a chain are slots of the ideal buffer, whose line is a delay line: what its
 -- slots deliver is the line as it stood and then what each request was given; and what a request was given is what is
--- due to it. All of it holds from every state that keeps the rules, for any number of cells. `chain-delays`,
--- `given-is-due` and `arrived-since-fresh` say it.
+-- due to it. All of it holds from every state that keeps the rules, for any number of cells. `chain_delays`,
+-- `given-is_due` and `arrived_since_fresh` say it.
 use mathlib.Core.Path.{◌≡◌, refl, ap, sym, ◌∙◌, fun_ext, subst}
 use mathlib.Core.List.{List, [], ◌∷◌, ◌++◌, append_assoc}
 use mathlib.Core.Option.{Option, some, none}
@@ -17,26 +17,26 @@ use Rattle.model.specs.Slot.{Call, as_byte, arriving, halves_taken, Answer, acce
 use Rattle.model.specs.Lists.{Step, step_of, accepted, deliveries, arrivals_of, asks, requests_of, request_at, due_to}
 use Rattle.model.specs.Arbiter.{noting}
 use Rattle.model.specs.Ideal.{Ideal, soonest, waiting_with, next_byte_of, ideal_slot, stands_for, stream, IsIdealSlot}
-use Rattle.model.proofs.basics.Tests.{eqb_same, none-not-some}
+use Rattle.model.proofs.basics.Tests.{eqb_same, none_not_some}
 use Rattle.model.proofs.one_slot.Rules.{Keeps, keeps-noted}
-use Rattle.model.proofs.one_slot.Accepted.{RefusedOrAccepted, was-refused, was_accepted, outcome}
+use Rattle.model.proofs.one_slot.Accepted.{RefusedOrAccepted, was_refused, was_accepted, outcome}
 use Rattle.model.proofs.one_slot.Kept.{slot_kept}
-use Rattle.model.proofs.one_slot.Chains.{Links, no-link, link}
-use Rattle.model.proofs.delay.Line.{line_length, first-append}
-use Rattle.model.proofs.delay.IdealSlot.{accepted-is-ideal}
+use Rattle.model.proofs.one_slot.Chains.{Links, no_link, link}
+use Rattle.model.proofs.delay.Line.{line_length, first_append}
+use Rattle.model.proofs.delay.IdealSlot.{accepted-is_ideal}
 
 -- What the ideal buffer gives to each request of a list of slots, and that it has a byte for each.
-abbrev pub leftWaiting : (ℕ → List ℕ) → Step → ℕ → List ℕ
-leftWaiting w step q = drop (asks q step.request) (waiting_with w step.arrival q)
+abbrev pub left_waiting : (ℕ → List ℕ) → Step → ℕ → List ℕ
+left_waiting w step q = drop (asks q step.request) (waiting_with w step.arrival q)
 
 abbrev pub gives : (ℕ → List ℕ) → List Step → List (Option Byte)
 gives w [] = []
-gives w (step ∷ slots) = next_byte_of (waiting_with w step.arrival) step.request ∷ gives (leftWaiting w step) slots
+gives w (step ∷ slots) = next_byte_of (waiting_with w step.arrival) step.request ∷ gives (left_waiting w step) slots
 
 abbrev pub Finds : (ℕ → List ℕ) → List Step → Type 0
 Finds w [] = Unit {0}
 Finds w (step ∷ slots) =
-    ((q : ℕ) → asks q step.request ≤ length (waiting_with w step.arrival q)) × Finds (leftWaiting w step) slots
+    ((q : ℕ) → asks q step.request ≤ length (waiting_with w step.arrival q)) × Finds (left_waiting w step) slots
 
 -- A list of slots, as the ideal buffer answers it.
 pub record Delays (i : Ideal) (slots : List Step) : Type 0 where
@@ -44,62 +44,62 @@ pub record Delays (i : Ideal) (slots : List Step) : Type 0 where
   pub finds : Finds i.waiting slots
 
 -- One slot more: the oldest place of the line goes first.
-line-shifts : (line : List (Option Byte)) (new : Option Byte) (later : List (Option Byte)) (n : ℕ) → 1 ≤ length line
+line_shifts : (line : List (Option Byte)) (new : Option Byte) (later : List (Option Byte)) (n : ℕ) → 1 ≤ length line
     → soonest line ∷ take n ((drop 1 line ++ new ∷ []) ++ later) ≡ take (suc n) (line ++ new ∷ later)
-line-shifts [] new later n h = absurd (omega arith)
-line-shifts (o ∷ line) new later n h = ap (λ (l : List (Option Byte)). o ∷ take n l) (append_snoc line new later)
+line_shifts [] new later n h = absurd (omega arith)
+line_shifts (o ∷ line) new later n h = ap (λ (l : List (Option Byte)). o ∷ take n l) (append_snoc line new later)
 
-delays-more : (i : Ideal) (step : Step) (slots : List Step) → 1 ≤ length i.line
+delays_more : (i : Ideal) (step : Step) (slots : List Step) → 1 ≤ length i.line
     → step.reply.delivered ≡ soonest i.line
     → ((q : ℕ) → asks q step.request ≤ length (waiting_with i.waiting step.arrival q))
     → Delays (ideal_slot (record { arrival = step.arrival; request = step.request }) i) slots
     → Delays i (step ∷ slots)
-delays-more i step slots long first there d = record {
+delays_more i step slots long first there d = record {
   delivers =
       ap (λ (o : Option Byte). o ∷ deliveries slots) first
       ∙ ap (λ (l : List (Option Byte)). soonest i.line ∷ l) d.delivers
-      ∙ line-shifts i.line (next_byte_of (waiting_with i.waiting step.arrival) step.request)
-      (gives (leftWaiting i.waiting step) slots) (length slots) long;
+      ∙ line_shifts i.line (next_byte_of (waiting_with i.waiting step.arrival) step.request)
+      (gives (left_waiting i.waiting step) slots) (length slots) long;
   finds = (there, d.finds);
 }
 
 -- From a state that keeps the rules.
 module _ (design : Design) where
-  pub line-long : (x : State) (store : List ℕ) → 1 ≤ design.cell_count x.sizes → Keeps design x
+  pub line_long : (x : State) (store : List ℕ) → 1 ≤ design.cell_count x.sizes → Keeps design x
       → 1 ≤ length (stands_for x store).line
-  line-long x store h v = omega (arith, line_length (stream x store) x.cells, v.within.cells_long)
+  line_long x store h v = omega (arith, line_length (stream x store) x.cells, v.within.cells_long)
 
-  call-delays : (x : State) (store : List ℕ) (call : Call) (a : Answer) (noted : ℕ) (rest : List Step)
+  call_delays : (x : State) (store : List ℕ) (call : Call) (a : Answer) (noted : ℕ) (rest : List Step)
       → 1 ≤ design.cell_count x.sizes → Keeps design x → RefusedOrAccepted design x store call a
       → Delays (stands_for a.state a.store) (accepted rest)
       → Delays (stands_for x store) (accepted (step_of x store call (noting noted a) ∷ rest))
-  call-delays x store call a noted rest h v (was-refused n e) d = rw (ne_eqb (suc n) 0 (λ z. omega arith)) d
-  call-delays x store call a noted rest h v (was_accepted f) d =
-      delays-more (stands_for x store) (step_of x store call (noting noted a)) (accepted rest) (line-long x store h v)
+  call_delays x store call a noted rest h v (was_refused n e) d = rw (ne_eqb (suc n) 0 (λ z. omega arith)) d
+  call_delays x store call a noted rest h v (was_accepted f) d =
+      delays_more (stands_for x store) (step_of x store call (noting noted a)) (accepted rest) (line_long x store h v)
       ideal.delivers ideal.byte_waits
       (subst (λ (i : Ideal). Delays i (accepted rest)) ideal.leaves d)
     where
       ideal : IsIdealSlot x store (halves_taken x call) (accept x store call)
-      ideal = accepted-is-ideal design x store (halves_taken x call) h f.judged
+      ideal = accepted-is_ideal design x store (halves_taken x call) h f.judged
 
-  pub chain-delays : {x : State} {store : List ℕ} {steps : List Step} {last : State}
+  pub chain_delays : {x : State} {store : List ℕ} {steps : List Step} {last : State}
       → 1 ≤ design.cell_count x.sizes → Keeps design x → Links design x store steps last
       → Delays (stands_for x store) (accepted steps)
-  chain-delays h v no-link = record { delivers = refl; finds = tt }
-  chain-delays h v (link {x = x} {store = store} {steps = steps} call noted below c) =
+  chain_delays h v no_link = record { delivers = refl; finds = tt }
+  chain_delays h v (link {x = x} {store = store} {steps = steps} call noted below c) =
       let a = slot design x store call in
       let k = slot_kept design x store call h v in
-      call-delays x store call a noted steps h v (outcome design x store call)
-      (chain-delays (rw k.same_sizes h)
-      (keeps-noted design a.state noted (rw k.same_sizes (below v.last_below)) k.kept) c)
+      call_delays x store call a noted steps h v (outcome design x store call)
+      (chain_delays (rw k.same-sizes h)
+      (keeps-noted design a.state noted (rw k.same-sizes (below v.last_below)) k.kept) c)
 
 -- What a request was given is what is due to it, where `w` waited before the list began.
-abbrev dueFrom : (ℕ → List ℕ) → List Step → ℕ → Option ℕ → Option Byte
-dueFrom w slots t none = none
-dueFrom w slots t (some q) = as_byte q (get_elem? (w q ++ arrivals_of q slots) (requests_of q (take t slots)))
+abbrev due_from : (ℕ → List ℕ) → List Step → ℕ → Option ℕ → Option Byte
+due_from w slots t none = none
+due_from w slots t (some q) = as_byte q (get_elem? (w q ++ arrivals_of q slots) (requests_of q (take t slots)))
 
-own-request : (q : ℕ) → asks q (some q) ≡ 1
-own-request q = rw (eqb_same q)
+own_request : (q : ℕ) → asks q (some q) ≡ 1
+own_request q = rw (eqb_same q)
 
 nth_drop : (n i : ℕ) (l : List ℕ) → get_elem? (drop n l) i ≡ get_elem? l (n + i)
 nth_drop zero i l = ap (get_elem? l) (let e : i ≡ 0 + i = omega arith in e)
@@ -109,18 +109,18 @@ nth_drop (suc n) i (x ∷ l) = nth_drop n i l ∙ ap (get_elem? (x ∷ l)) (let 
 module _ (w : ℕ → List ℕ) (step : Step) (slots : List Step)
     (there : (q : ℕ) → asks q step.request ≤ length (waiting_with w step.arrival q)) where
   given-now : (r : Option ℕ) → step.request ≡ r
-      → next_byte_of (waiting_with w step.arrival) r ≡ dueFrom w (step ∷ slots) 0 r
+      → next_byte_of (waiting_with w step.arrival) r ≡ due_from w (step ∷ slots) 0 r
   given-now none e = refl
   given-now (some q) e =
       ap (as_byte q)
-      (sym (first-append (waiting_with w step.arrival q) (arrivals_of q slots) one)
+      (sym (first_append (waiting_with w step.arrival q) (arrivals_of q slots) one)
       ∙ ap (λ (l : List ℕ). get_elem? l 0)
       (append_assoc (w q) (values_of q (arriving step.arrival)) (arrivals_of q slots)))
     where
       one : 1 ≤ length (waiting_with w step.arrival q)
-      one = omega (arith, there q, ap (asks q) e, own-request q)
+      one = omega (arith, there q, ap (asks q) e, own_request q)
 
-  given-later : (t : ℕ) (r : Option ℕ) → dueFrom (leftWaiting w step) slots t r ≡ dueFrom w (step ∷ slots) (suc t) r
+  given-later : (t : ℕ) (r : Option ℕ) → due_from (left_waiting w step) slots t r ≡ due_from w (step ∷ slots) (suc t) r
   given-later t none = refl
   given-later t (some q) =
       ap (as_byte q)
@@ -138,32 +138,32 @@ module _ (w : ℕ → List ℕ) (step : Step) (slots : List Step)
       front : List ℕ
       front = waiting_with w step.arrival q
 
-pub given-is-due : (w : ℕ → List ℕ) (slots : List Step) → Finds w slots
-    → gives w slots ≡ tabulate (length slots) (λ t. dueFrom w slots t (request_at slots t))
-given-is-due w [] f = refl
-given-is-due w (step ∷ slots) f =
-    ap (λ (o : Option Byte). o ∷ gives (leftWaiting w step) slots) (given-now w step slots f.0 step.request refl)
-    ∙ ap (λ (l : List (Option Byte)). dueFrom w (step ∷ slots) 0 step.request ∷ l)
-    (given-is-due (leftWaiting w step) slots f.1
+pub given-is_due : (w : ℕ → List ℕ) (slots : List Step) → Finds w slots
+    → gives w slots ≡ tabulate (length slots) (λ t. due_from w slots t (request_at slots t))
+given-is_due w [] f = refl
+given-is_due w (step ∷ slots) f =
+    ap (λ (o : Option Byte). o ∷ gives (left_waiting w step) slots) (given-now w step slots f.0 step.request refl)
+    ∙ ap (λ (l : List (Option Byte)). due_from w (step ∷ slots) 0 step.request ∷ l)
+    (given-is_due (left_waiting w step) slots f.1
     ∙ ap (tabulate (length slots)) (fun_ext (λ t. given-later w step slots f.0 t (request_at slots t))))
 
-pub due-from-nothing : (slots : List Step) (t : ℕ) (r : Option ℕ) → dueFrom (λ q. []) slots t r ≡ due_to slots t r
-due-from-nothing slots t none = refl
-due-from-nothing slots t (some q) = refl
+pub due_from_nothing : (slots : List Step) (t : ℕ) (r : Option ℕ) → due_from (λ q. []) slots t r ≡ due_to slots t r
+due_from_nothing slots t none = refl
+due_from_nothing slots t (some q) = refl
 
 -- Every byte that is owed had arrived by the slot of its request.
-pub arrived-in-time : (w : ℕ → List ℕ) (slots : List Step) → Finds w slots → (t q : ℕ) → request_at slots t ≡ some q
+pub arrived_in_time : (w : ℕ → List ℕ) (slots : List Step) → Finds w slots → (t q : ℕ) → request_at slots t ≡ some q
     → requests_of q (take t slots) < length (w q) + length (arrivals_of q (take (suc t) slots))
-arrived-in-time w [] f t q e = absurd (none-not-some q e)
-arrived-in-time w (step ∷ slots) f zero q e =
-    omega (arith, f.0 q, ap (asks q) e, own-request q, length-append (w q) now, length-append now [])
+arrived_in_time w [] f t q e = absurd (none_not_some q e)
+arrived_in_time w (step ∷ slots) f zero q e =
+    omega (arith, f.0 q, ap (asks q) e, own_request q, length-append (w q) now, length-append now [])
   where
     now : List ℕ
     now = values_of q (arriving step.arrival)
-arrived-in-time w (step ∷ slots) f (suc t) q e =
+arrived_in_time w (step ∷ slots) f (suc t) q e =
     omega (
       arith,
-      arrived-in-time (leftWaiting w step) slots f.1 t q e,
+      arrived_in_time (left_waiting w step) slots f.1 t q e,
       f.0 q,
       length-drop (asks q step.request) (waiting_with w step.arrival q),
       length-append (w q) now,
@@ -173,7 +173,7 @@ arrived-in-time w (step ∷ slots) f (suc t) q e =
     now : List ℕ
     now = values_of q (arriving step.arrival)
 
-pub arrived-since-fresh : (slots : List Step) → Finds (λ q. []) slots → (t q : ℕ) → request_at slots t ≡ some q
+pub arrived_since_fresh : (slots : List Step) → Finds (λ q. []) slots → (t q : ℕ) → request_at slots t ≡ some q
     → requests_of q (take t slots) < length (arrivals_of q (take (t + 1) slots))
-arrived-since-fresh slots f t q e =
-    rw (let n : t + 1 ≡ suc t = omega arith in n) (omega (arith, arrived-in-time (λ q. []) slots f t q e))
+arrived_since_fresh slots f t q e =
+    rw (let n : t + 1 ≡ suc t = omega arith in n) (omega (arith, arrived_in_time (λ q. []) slots f t q e))

@@ -1,5 +1,5 @@
 -- Step 4 on the ideal buffer: the two moves change nothing, because a write puts at a stream's end what it takes from
--- the tail's front, and a read moves a block within its stream. `line-written`, `waiting-written` and `stream-read`
+-- the tail's front, and a read moves a block within its stream. `line_written`, `waiting_written` and `stream-read`
 -- say it.
 use mathlib.Core.Path.{◌≡◌, ap, sym, ◌∙◌, fun_ext}
 use mathlib.Core.Bool.{Bool, false}
@@ -17,23 +17,23 @@ use Rattle.model.specs.Sizes.{store_bytes}
 use Rattle.model.specs.State.{Ring, ring, State, values_of, tail_bytes, owed_cells, ring_of, blocks}
 use Rattle.model.specs.Slot.{without, next_block, after_write, store_written, block_at, bytes_for, after_read}
 use Rattle.model.specs.Ideal.{ring_bytes, stream, line_of}
-use Rattle.model.proofs.basics.Tests.{by-test, at-queue, eqb_same}
-use Rattle.model.proofs.basics.Bytes.{values-append, values-for-same, values-for-other, values-without-same}
-use Rattle.model.proofs.basics.Bytes.{values-without-other}
-use Rattle.model.proofs.basics.Rings.{ring-set-same, ring-set-other, place-fits, fewer-blocks}
+use Rattle.model.proofs.basics.Tests.{by_test, at_queue_lem, eqb_same}
+use Rattle.model.proofs.basics.Bytes.{values-append, values-for_same, values-for_other, values-without_same}
+use Rattle.model.proofs.basics.Bytes.{values-without_other}
+use Rattle.model.proofs.basics.Rings.{ring-set_same, ring-set_other, place_fits, fewer_blocks}
 use Rattle.model.proofs.one_slot.Rules.{Rules}
-use Rattle.model.proofs.delay.Store.{ring-places-apart, ring-longer, ring-same, block_written, block-untouched}
-use Rattle.model.proofs.delay.Store.{block-numbers-apart}
-use Rattle.model.proofs.delay.Line.{line, waiting, ringValues, line-longer}
-use Rattle.model.proofs.delay.Request.{owed-in-stream}
+use Rattle.model.proofs.delay.Store.{ring-places_apart, ring-longer, ring-same, block_written, block_untouched}
+use Rattle.model.proofs.delay.Store.{block_numbers_apart}
+use Rattle.model.proofs.delay.Line.{line, waiting, ring_values, line_longer}
+use Rattle.model.proofs.delay.Request.{owed_in_stream}
 
 -- 4. The write: the block leaves the tail's front and joins the stream's end, and no other block changes.
-first-in-range : (n : ℕ) (x : State) (q : ℕ) → Rules n x → 1 ≤ x.sizes.K → (ring_of x.rings q).first < x.sizes.K
-first-in-range n x q v h =
-    by-test (ltb q x.sizes.Q)
+first_in_range_lem : (n : ℕ) (x : State) (q : ℕ) → Rules n x → 1 ≤ x.sizes.K → (ring_of x.rings q).first < x.sizes.K
+first_in_range_lem n x q v h =
+    by_test (ltb q x.sizes.Q)
     (λ t. v.firsts q (ltb-true q x.sizes.Q t))
     (λ t. rw (get_or-eq_default x.rings (ring 0 0) {n = q}
-    (omega (arith, v.rings-long, ltb-false q x.sizes.Q t))) h)
+    (omega (arith, v.rings_long, ltb-false q x.sizes.Q t))) h)
 
 module _ (n : ℕ) (x : State) (q : ℕ) (store : List ℕ) (taken : (q < x.sizes.Q) × (x.sizes.b ≤ tail_bytes x q))
     (pos : 1 ≤ x.sizes.b) (long : store_bytes x.sizes ≤ length store) (v : Rules n x) where
@@ -61,26 +61,26 @@ module _ (n : ℕ) (x : State) (q : ℕ) (store : List ℕ) (taken : (q < x.size
   values-long : length values ≡ x.sizes.b
   values-long = omega (arith, length-take x.sizes.b (values_of q x.tail), taken.1)
 
-  place-in-range : place < x.sizes.K
-  place-in-range = mod-lt (old.first + old.count) K-positive
+  place_in_range : place < x.sizes.K
+  place_in_range = mod-lt (old.first + old.count) K-positive
 
-  block-fits : (q * x.sizes.K + place) * x.sizes.b + x.sizes.b ≤ length store
-  block-fits = omega (
+  block_fits : (q * x.sizes.K + place) * x.sizes.b + x.sizes.b ≤ length store
+  block_fits = omega (
     arith,
     long,
-    place-fits x.sizes.Q x.sizes.K x.sizes.b q place
-        taken.0 place-in-range,
+    place_fits x.sizes.Q x.sizes.K x.sizes.b q place
+        taken.0 place_in_range,
   )
 
-  place-free : old.count < x.sizes.K
-  place-free =
-      fewer-blocks (tail_bytes x q) x.sizes.b old.count x.sizes.K pos taken.1 (v.room q taken.0)
+  place_free : old.count < x.sizes.K
+  place_free =
+      fewer_blocks (tail_bytes x q) x.sizes.b old.count x.sizes.K pos taken.1 (v.room q taken.0)
 
-  block-kept : (p k : ℕ) → k < x.sizes.K → ((p ≡ q) × (k ≡ place) → ⊥)
+  block_kept : (p k : ℕ) → k < x.sizes.K → ((p ≡ q) × (k ≡ place) → ⊥)
       → block_at x.sizes store' p k ≡ block_at x.sizes store p k
-  block-kept p k l apart =
-      block-untouched x.sizes.b (q * x.sizes.K + place) values store values-long block-fits (p * x.sizes.K + k)
-      (λ e. apart (block-numbers-apart x.sizes.K p k q place l place-in-range e))
+  block_kept p k l apart =
+      block_untouched x.sizes.b (q * x.sizes.K + place) values store values-long block_fits (p * x.sizes.K + k)
+      (λ e. apart (block_numbers_apart x.sizes.K p k q place l place_in_range e))
 
   -- The stream of q has the block at its end; the others are as they were.
   abbrev joins : ℕ → List ℕ
@@ -88,27 +88,27 @@ module _ (n : ℕ) (x : State) (q : ℕ) (store : List ℕ) (taken : (q < x.size
 
   grown-here : stream x' store' q ≡ stream x store q ++ values
   grown-here =
-      rw (ring-set-same x.rings q new (omega (arith, v.rings-long, taken.0)))
+      rw (ring-set_same x.rings q new (omega (arith, v.rings_long, taken.0)))
       (ap (λ (r : List ℕ). values_of q x.head ++ r)
       (ring-longer x.sizes store' q old.first old.count (v.firsts q taken.0)
       ∙ ap (λ (r : List ℕ). r ++ block_at x.sizes store' q place) kept
-      ∙ ap (λ (r : List ℕ). ringValues x store q ++ r)
-      (block_written x.sizes.b (q * x.sizes.K + place) values store values-long block-fits))
-      ∙ sym (append_assoc (values_of q x.head) (ringValues x store q) values))
+      ∙ ap (λ (r : List ℕ). ring_values x store q ++ r)
+      (block_written x.sizes.b (q * x.sizes.K + place) values store values-long block_fits))
+      ∙ sym (append_assoc (values_of q x.head) (ring_values x store q) values))
     where
-      kept : ring_bytes x.sizes store' q old.first old.count ≡ ringValues x store q
+      kept : ring_bytes x.sizes store' q old.first old.count ≡ ring_values x store q
       kept =
           ring-same x.sizes store store' q old.first old.count (v.firsts q taken.0)
-          (λ i k. block-kept q ((old.first + i) % x.sizes.K) (mod-lt (old.first + i) K-positive)
-          (λ e. ring-places-apart x.sizes.K old.first i old.count (v.firsts q taken.0) k place-free
+          (λ i k. block_kept q ((old.first + i) % x.sizes.K) (mod-lt (old.first + i) K-positive)
+          (λ e. ring-places_apart x.sizes.K old.first i old.count (v.firsts q taken.0) k place_free
           e.1))
 
   same-elsewhere : (p : ℕ) → eqb q p ≡ false → stream x' store' p ≡ stream x store p
   same-elsewhere p t =
-      rw (ring-set-other x.rings q p new t)
+      rw (ring-set_other x.rings q p new t)
       (ap (λ (r : List ℕ). values_of p x.head ++ r)
-      (ring-same x.sizes store store' p first (ring_of x.rings p).count (first-in-range n x p v K-positive)
-      (λ i k. block-kept p ((first + i) % x.sizes.K) (mod-lt (first + i) K-positive)
+      (ring-same x.sizes store store' p first (ring_of x.rings p).count (first_in_range_lem n x p v K-positive)
+      (λ i k. block_kept p ((first + i) % x.sizes.K) (mod-lt (first + i) K-positive)
       (λ e. eqb-false q p t (sym e.0)))))
     where
       first : ℕ
@@ -116,7 +116,7 @@ module _ (n : ℕ) (x : State) (q : ℕ) (store : List ℕ) (taken : (q < x.size
 
   grown : (p : ℕ) → stream x' store' p ≡ stream x store p ++ joins p
   grown =
-      at-queue (λ p. stream x' store' p ≡ stream x store p ++ joins p) q
+      at_queue_lem (λ p. stream x' store' p ≡ stream x store p ++ joins p) q
       (rw (eqb_same q) grown-here)
       (λ p t. ap (λ (l : List ℕ). l) (same-elsewhere p t) ∙ sym (append-nil (stream x store p)) ∙ nothing p t)
     where
@@ -124,44 +124,44 @@ module _ (n : ℕ) (x : State) (q : ℕ) (store : List ℕ) (taken : (q < x.size
       nothing p t = ap (λ (b : Bool). stream x store p ++ choose b values []) (sym t)
 
   reach : (p : ℕ) → owed_cells x p ≤ length (stream x store p)
-  reach = owed-in-stream n x store long v
+  reach = owed_in_stream n x store long v
 
-  pub line-written : line x' store' ≡ line x store
-  line-written =
-      ap (λ (f : ℕ → List ℕ). line_of f x.cells) (fun_ext grown) ∙ line-longer (stream x store) joins x.cells reach
+  pub line_written : line x' store' ≡ line x store
+  line_written =
+      ap (λ (f : ℕ → List ℕ). line_of f x.cells) (fun_ext grown) ∙ line_longer (stream x store) joins x.cells reach
 
-  tail-joins : (p : ℕ) → joins p ++ values_of p (without x.sizes.b q x.tail) ≡ values_of p x.tail
-  tail-joins =
-      at-queue (λ p. joins p ++ values_of p (without x.sizes.b q x.tail) ≡ values_of p x.tail) q
-      (rw (eqb_same q, values-without-same x.sizes.b q x.tail)
+  tail_joins : (p : ℕ) → joins p ++ values_of p (without x.sizes.b q x.tail) ≡ values_of p x.tail
+  tail_joins =
+      at_queue_lem (λ p. joins p ++ values_of p (without x.sizes.b q x.tail) ≡ values_of p x.tail) q
+      (rw (eqb_same q, values-without_same x.sizes.b q x.tail)
       (take-append-drop x.sizes.b (values_of q x.tail)))
-      (λ p t. rw (t, values-without-other x.sizes.b q p x.tail t))
+      (λ p t. rw (t, values-without_other x.sizes.b q p x.tail t))
 
-  pub waiting-written : (p : ℕ) → waiting x' store' p ≡ waiting x store p
-  waiting-written p =
+  pub waiting_written : (p : ℕ) → waiting x' store' p ≡ waiting x store p
+  waiting_written p =
       ap (λ (l : List ℕ). drop (owed_cells x p) l ++ values_of p x'.tail) (grown p)
       ∙ ap (λ (l : List ℕ). l ++ values_of p x'.tail)
       (drop-append-le (owed_cells x p) (stream x store p) (joins p) (reach p))
       ∙ append_assoc (drop (owed_cells x p) (stream x store p)) (joins p) (values_of p x'.tail)
-      ∙ ap (λ (l : List ℕ). drop (owed_cells x p) (stream x store p) ++ l) (tail-joins p)
+      ∙ ap (λ (l : List ℕ). drop (owed_cells x p) (stream x store p) ++ l) (tail_joins p)
 
 -- 4. The read: the block at the ring's front becomes the end of the queue's head bytes.
 module _ (n : ℕ) (x : State) (q : ℕ) (store : List ℕ) (taken : (q < x.sizes.Q) × (1 ≤ blocks x q))
     (v : Rules n x) where
   pub stream-read : (p : ℕ) → stream (after_read (some q) x store) store p ≡ stream x store p
   stream-read =
-      at-queue (λ p. stream (after_read (some q) x store) store p ≡ stream x store p) q
+      at_queue_lem (λ p. stream (after_read (some q) x store) store p ≡ stream x store p) q
       (rw (
-        ring-set-same x.rings q next (omega (arith, v.rings-long, taken.0)),
+        ring-set_same x.rings q next (omega (arith, v.rings_long, taken.0)),
         values-append q x.head (bytes_for q block),
-        values-for-same q block,
+        values-for_same q block,
       )
       (append_assoc (values_of q x.head) block (ring_bytes x.sizes store q next.first next.count)
       ∙ ap (λ (r : List ℕ). values_of q x.head ++ r) (front ring₀.count taken.1)))
       (λ p t. rw (
-        ring-set-other x.rings q p next t,
+        ring-set_other x.rings q p next t,
         values-append p x.head (bytes_for q block),
-        values-for-other q p block t,
+        values-for_other q p block t,
         append-nil (values_of p x.head),
       ))
     where

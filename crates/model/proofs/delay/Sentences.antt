@@ -16,9 +16,9 @@ use Rattle.model.specs.State.{Byte, values_of}
 use Rattle.model.specs.Slot.{as_byte, arriving}
 use Rattle.model.specs.Lists.{Step, deliveries, arrivals_of, requests_of, due_to, due_at}
 use Rattle.model.specs.Demand.{FixedDelay, Sentences}
-use Rattle.model.proofs.basics.Tests.{by-test}
+use Rattle.model.proofs.basics.Tests.{by_test}
 use Rattle.model.proofs.basics.AllOf.{tabulate-at}
-use Rattle.model.proofs.delay.Line.{element-at}
+use Rattle.model.proofs.delay.Line.{element_at}
 
 -- The first L places of a line, and the places after them, of what is cut to n places.
 module _ (L n : ℕ) (owed : ℕ → Option Byte) where
@@ -28,8 +28,8 @@ module _ (L n : ℕ) (owed : ℕ → Option Byte) where
   abbrev nothing : Option Byte
   nothing = none
 
-  pub line-later : (t : ℕ) → t + L < n → get_or line (t + L) none ≡ owed t
-  line-later t l =
+  pub line_later : (t : ℕ) → t + L < n → get_or line (t + L) none ≡ owed t
+  line_later t l =
       get_or-take n (replicate L none ++ tabulate n owed) (t + L) none l
       ∙ ap (λ (i : ℕ). get_or (replicate L none ++ tabulate n owed) i none)
       (let e : t + L ≡ length (replicate L nothing) + t = omega (arith, length-replicate L nothing) in e)
@@ -38,7 +38,7 @@ module _ (L n : ℕ) (owed : ℕ → Option Byte) where
 
   pub line_first : (t : ℕ) → t < L → get_or line t none ≡ none
   line_first t l =
-      by-test (ltb t n)
+      by_test (ltb t n)
       (λ u. get_or-take n (replicate L none ++ tabulate n owed) t none (ltb-true t n u)
       ∙ get_or-append (replicate L none) (tabulate n owed) none t (omega (arith, length-replicate L nothing))
       ∙ get_or-replicate L t none none l)
@@ -60,7 +60,7 @@ arrivals-grow q (suc n) (step ∷ slots) =
 pub sentences : (s : Sizes) (slots : List Step) → FixedDelay s slots → Sentences s slots
 sentences s slots m = record {
   answered = λ t q r l.
-      let there = element-at (arrivals_of q slots) (requests_of q (take t slots))
+      let there = element_at (arrivals_of q slots) (requests_of q (take t slots))
       (omega (arith, m.in_time t q r, arrivals-grow q (t + 1) slots)) in (
         there.0,
         there.1,
@@ -75,4 +75,4 @@ sentences s slots m = record {
     at : (t : ℕ) → t + lookahead s < length slots → get_or (deliveries slots) (t + lookahead s) none ≡ due_at slots t
     at t l =
         ap (λ (d : List (Option Byte)). get_or d (t + lookahead s) none) m.delay
-        ∙ line-later (lookahead s) (length slots) (due_at slots) t l
+        ∙ line_later (lookahead s) (length slots) (due_at slots) t l

@@ -1,5 +1,5 @@
 -- The blocks of a queue in the slow store, in ring order: one more block joins at the end, and a write changes that
--- block and no other, because no two blocks share a place. `ring-longer`, `block_written` and `block-untouched` say
+-- block and no other, because no two blocks share a place. `ring-longer`, `block_written` and `block_untouched` say
 -- it.
 use mathlib.Core.Path.{◌≡◌, refl, ap, sym, ◌∙◌}
 use mathlib.Core.Bool.{false}
@@ -15,11 +15,11 @@ use borrow.Author.Tests.{ltb-true, ltb-false}
 use Rattle.model.specs.Sizes.{Sizes}
 use Rattle.model.specs.Slot.{block_at, placed}
 use Rattle.model.specs.Ideal.{ring_bytes}
-use Rattle.model.proofs.basics.Tests.{by-test}
+use Rattle.model.proofs.basics.Tests.{by_test}
 
 -- Places along a ring of K blocks from block `first` on.
-step-around : (K first n : ℕ) → ((first + 1) % K + n) % K ≡ (first + suc n) % K
-step-around K first n =
+step_around : (K first n : ℕ) → ((first + 1) % K + n) % K ≡ (first + suc n) % K
+step_around K first n =
     mod-add-mod (first + 1) K n ∙ ap (λ (m : ℕ). m % K) (let e : first + 1 + n ≡ first + suc n = omega arith in e)
 
 at_first : (K first : ℕ) → first < K → (first + 0) % K ≡ first
@@ -28,10 +28,10 @@ at_first K first l = ap (λ (m : ℕ). m % K) (let e : first + 0 ≡ first = ome
 wraps : (K a : ℕ) → a < K + K → ltb a K ≡ false → a % K ≡ a - K
 wraps K a l t = mod-eq-sub-mod (ltb-false a K t) ∙ mod-eq_of_lt (omega (arith, ltb-false a K t))
 
-pub ring-places-apart : (K first i n : ℕ) → first < K → i < n → n < K → (first + i) % K ≡ (first + n) % K → ⊥
-ring-places-apart K first i n l m h e =
-    by-test (ltb (first + i) K)
-    (λ t. by-test (ltb (first + n) K)
+pub ring-places_apart : (K first i n : ℕ) → first < K → i < n → n < K → (first + i) % K ≡ (first + n) % K → ⊥
+ring-places_apart K first i n l m h e =
+    by_test (ltb (first + i) K)
+    (λ t. by_test (ltb (first + n) K)
     (λ u. omega (arith, e, mod-eq_of_lt (ltb-true (first + i) K t), mod-eq_of_lt (ltb-true (first + n) K u)))
     (λ u. omega (
       arith,
@@ -40,7 +40,7 @@ ring-places-apart K first i n l m h e =
       wraps K (first + n) (omega arith) u,
       ltb-false (first + n) K u,
     )))
-    (λ t. by-test (ltb (first + n) K)
+    (λ t. by_test (ltb (first + n) K)
     (λ u. omega (arith, ltb-true (first + n) K u, ltb-false (first + i) K t))
     (λ u. omega (
       arith,
@@ -63,7 +63,7 @@ ring-longer s store q first n l =
     longer first (suc n) l =
         ap (λ (r : List ℕ). block_at s store q first ++ r)
         (longer next n (mod-lt (first + 1) (omega arith))
-        ∙ ap (λ (i : ℕ). ring_bytes s store q next n ++ block_at s store q i) (step-around s.K first n))
+        ∙ ap (λ (i : ℕ). ring_bytes s store q next n ++ block_at s store q i) (step_around s.K first n))
         ∙ sym (append_assoc (block_at s store q first) (ring_bytes s store q next n)
         (block_at s store q ((first + suc n) % s.K)))
       where
@@ -91,7 +91,7 @@ ring-same s store store' q first (suc n) l h =
     ap (λ (r : List ℕ). r ++ ring_bytes s store' q next n) here
     ∙ ap (λ (r : List ℕ). block_at s store q first ++ r)
     (ring-same s store store' q next n (mod-lt (first + 1) (omega arith))
-    (λ i k. rw (step-around s.K first i) (h (suc i) (omega arith))))
+    (λ i k. rw (step_around s.K first i) (h (suc i) (omega arith))))
   where
     next : ℕ
     next = (first + 1) % s.K
@@ -121,15 +121,15 @@ module _ (b m : ℕ) (values store : List ℕ) (size : length values ≡ b) (fit
   pub block_written : take b (drop (m * b) written) ≡ values
   block_written = ap (take b) (drop_at front (values ++ back) (m * b) front_long) ∙ take_at values back b size
 
-  past-written : drop (m * b + b) written ≡ drop (m * b + b) store
-  past-written =
+  past_written : drop (m * b + b) written ≡ drop (m * b + b) store
+  past_written =
       sym (drop-drop b (m * b) written)
       ∙ ap (drop b) (drop_at front (values ++ back) (m * b) front_long)
       ∙ drop_at values back b size
       ∙ ap (λ (n : ℕ). drop (m * b + n) store) size
 
-  pub block-untouched : (n : ℕ) → (n ≡ m → ⊥) → take b (drop (n * b) written) ≡ take b (drop (n * b) store)
-  block-untouched n apart = by-test (ltb n m) (λ t. before (ltb-true n m t))
+  pub block_untouched : (n : ℕ) → (n ≡ m → ⊥) → take b (drop (n * b) written) ≡ take b (drop (n * b) store)
+  block_untouched n apart = by_test (ltb n m) (λ t. before (ltb-true n m t))
       (λ t. after (omega (arith, ltb-false n m t, apart)))
     where
       before : n < m → take b (drop (n * b) written) ≡ take b (drop (n * b) store)
@@ -142,7 +142,7 @@ module _ (b m : ℕ) (values store : List ℕ) (size : length values ≡ b) (fit
           ends = omega (arith, front_long, mul-le-mul_right {m = suc n} b l)
 
       after : m < n → take b (drop (n * b) written) ≡ take b (drop (n * b) store)
-      after l = ap (take b) (at written ∙ ap (drop further) past-written ∙ sym (at store))
+      after l = ap (take b) (at written ∙ ap (drop further) past_written ∙ sym (at store))
         where
           further : ℕ
           further = n * b - (m * b + b)
@@ -154,7 +154,7 @@ module _ (b m : ℕ) (values store : List ℕ) (size : length values ≡ b) (fit
               ∙ sym (drop-drop further (m * b + b) r)
 
 -- The number of a block tells its queue and its place in the ring.
-pub block-numbers-apart : (K q k q' k' : ℕ) → k < K → k' < K → q * K + k ≡ q' * K + k' → (q ≡ q') × (k ≡ k')
-block-numbers-apart K q k q' k' l l' e =
+pub block_numbers_apart : (K q k q' k' : ℕ) → k < K → k' < K → q * K + k ≡ q' * K + k' → (q ≡ q') × (k ≡ k')
+block_numbers_apart K q k q' k' l l' e =
     let same : q ≡ q' = sym (digits_div q l) ∙ ap (λ (n : ℕ). n / K) e ∙ digits_div q' l' in
     (same, omega (arith, e, ap (λ (n : ℕ). n * K) same))

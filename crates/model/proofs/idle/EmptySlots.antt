@@ -1,5 +1,5 @@
 -- Where all cells are empty and no queue has a block of tail bytes, any number of idle slots only turn the phase: a
--- shift of empty cells changes none of them. `empty-slots` says it.
+-- shift of empty cells changes none of them. `empty_slots` says it.
 use mathlib.Core.Path.{◌≡◌, refl, ap, sym, ◌∙◌, subst}
 use mathlib.Core.List.{List, ◌++◌}
 use mathlib.Core.Option.{none}
@@ -12,22 +12,22 @@ use Rattle.model.specs.State.{Cell, empty, State, head_bytes, with_phase, with_c
 use Rattle.model.specs.Slot.{refill_queue}
 use Rattle.model.specs.Idle.{turned, quietly, Quiet, AllQuiet}
 use Rattle.model.proofs.one_slot.Rules.{Keeps}
-use Rattle.model.proofs.idle.QuietSlot.{phase-stays, quietAnswer, quiet-slot}
-use Rattle.model.proofs.idle.QuietSlots.{PassedQuietly, none_passed, one_more, turned-twice, kept-quietly}
+use Rattle.model.proofs.idle.QuietSlot.{phase_stays, quiet_answer, quiet_slot}
+use Rattle.model.proofs.idle.QuietSlots.{PassedQuietly, none_passed, one_more, turned-twice, kept_quietly}
 
 -- Where all cells are empty, a shift changes none of them and the scan finds nothing.
-empties-are : (cells : List Cell) → ((i : ℕ) → i < length cells → get_or cells i empty ≡ empty)
+empties_are : (cells : List Cell) → ((i : ℕ) → i < length cells → get_or cells i empty ≡ empty)
     → cells ≡ replicate (length cells) empty
-empties-are cells h =
+empties_are cells h =
     ext_get_or empty cells (replicate (length cells) empty) (sym (length-replicate (length cells) empty))
     (λ i l. h i l ∙ sym (get_or-replicate (length cells) i empty empty l))
 
-scan-empties : (credits : ℕ → ℕ) (n : ℕ) → refill_queue credits (replicate n empty) ≡ none
-scan-empties credits zero = refl
-scan-empties credits (suc n) = scan-empties credits n
+scan_empties : (credits : ℕ → ℕ) (n : ℕ) → refill_queue credits (replicate n empty) ≡ none
+scan_empties credits zero = refl
+scan_empties credits (suc n) = scan_empties credits n
 
-shifted-empties : (m n : ℕ) → m ≤ n → drop m (replicate n empty) ++ replicate m empty ≡ replicate n empty
-shifted-empties m n h =
+shifted_empties : (m n : ℕ) → m ≤ n → drop m (replicate n empty) ++ replicate m empty ≡ replicate n empty
+shifted_empties m n h =
     ap (λ (cells : List Cell). drop m cells ++ replicate m empty) (parts m (n - m) (omega (arith, h)))
     ∙ ap (λ (cells : List Cell). cells ++ replicate m empty)
     (drop_at (replicate m empty) (replicate (n - m) empty) m (length-replicate m empty))
@@ -39,18 +39,18 @@ shifted-empties m n h =
 module _ (x : State) (all_empty : (i : ℕ) → i < length x.cells → get_or x.cells i empty ≡ empty) where
   none_owed : refill_queue (head_bytes x) x.cells ≡ none
   none_owed =
-      ap (refill_queue (head_bytes x)) (empties-are x.cells all_empty)
-      ∙ scan-empties (head_bytes x) (length x.cells)
+      ap (refill_queue (head_bytes x)) (empties_are x.cells all_empty)
+      ∙ scan_empties (head_bytes x) (length x.cells)
 
-  pub shift-is-turn : (m : ℕ) → m ≤ length x.cells → quietly m x ≡ turned m x
-  shift-is-turn m h =
+  pub shift_is_turn : (m : ℕ) → m ≤ length x.cells → quietly m x ≡ turned m x
+  shift_is_turn m h =
       ap (λ (cells : List Cell). with_cells cells (turned m x))
-      (ap (λ (cells : List Cell). drop m cells ++ replicate m empty) (empties-are x.cells all_empty)
-      ∙ shifted-empties m (length x.cells) h
-      ∙ sym (empties-are x.cells all_empty))
+      (ap (λ (cells : List Cell). drop m cells ++ replicate m empty) (empties_are x.cells all_empty)
+      ∙ shifted_empties m (length x.cells) h
+      ∙ sym (empties_are x.cells all_empty))
 
-one-quiet : (x : State) → 1 ≤ length x.cells → AllQuiet x → Quiet 1 x
-one-quiet x some_cell quiet = record {
+one_quiet : (x : State) → 1 ≤ length x.cells → AllQuiet x → Quiet 1 x
+one_quiet x some_cell quiet = record {
   within = some_cell;
   empties = λ i l. quiet.all_empty i (omega (arith, l, some_cell));
   still = λ l. record {
@@ -67,25 +67,25 @@ turned-plus m x =
 
 -- Any number of idle slots where all cells are empty and no queue has a block of tail bytes.
 module _ (design : Design) where
-  pub empty-slots : (m : ℕ) (x : State) (store : List ℕ) → 1 ≤ design.cell_count x.sizes
+  pub empty_slots : (m : ℕ) (x : State) (store : List ℕ) → 1 ≤ design.cell_count x.sizes
       → Keeps design x → store_bytes x.sizes ≤ length store → AllQuiet x
       → PassedQuietly design x store m (turned m x)
-  empty-slots zero x store cells-ok kept long quiet =
+  empty_slots zero x store cells_ok kept long quiet =
       none_passed design x (turned 0 x) store
-      (ap (λ (phase : ℕ). with_phase phase x) (phase-stays x kept.phase_ok)) kept
-  empty-slots (suc m) x store cells-ok kept long quiet =
+      (ap (λ (phase : ℕ). with_phase phase x) (phase_stays x kept.phase_ok)) kept
+  empty_slots (suc m) x store cells_ok kept long quiet =
       one_more design x (turned 1 x) (turned (suc m) x) store m
-      (quiet-slot design x store kept long first ∙ ap (λ (y : State). quietAnswer y store) once)
+      (quiet_slot design x store kept long first ∙ ap (λ (y : State). quiet_answer y store) once)
       (subst (PassedQuietly design (turned 1 x) store m) (turned-plus m x)
-      (empty-slots m (turned 1 x) store cells-ok
-      (subst (Keeps design) once (kept-quietly design x store kept long first)) long
+      (empty_slots m (turned 1 x) store cells_ok
+      (subst (Keeps design) once (kept_quietly design x store kept long first)) long
       (record { all_empty = quiet.all_empty; none_to_write = quiet.none_to_write })))
     where
       some_cell : 1 ≤ length x.cells
-      some_cell = omega (arith, cells-ok, kept.within.cells_long)
+      some_cell = omega (arith, cells_ok, kept.within.cells_long)
 
       first : Quiet 1 x
-      first = one-quiet x some_cell quiet
+      first = one_quiet x some_cell quiet
 
       once : quietly 1 x ≡ turned 1 x
-      once = shift-is-turn x quiet.all_empty 1 some_cell
+      once = shift_is_turn x quiet.all_empty 1 some_cell

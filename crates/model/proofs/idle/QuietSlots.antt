@@ -1,5 +1,5 @@
 -- m quiet slots shift the cells by m, turn the phase by m and change nothing else, since each leaves a state from
--- which the others are quiet. `quiet-slots` says it.
+-- which the others are quiet. `quiet_slots` says it.
 use mathlib.Core.Path.{◌≡◌, refl, ap, sym, ◌∙◌, subst}
 use mathlib.Core.List.{List, [], ◌∷◌, ◌++◌, append_assoc, append-nil}
 use Prim.Native.Nat.{ℕ, zero, suc, ◌+◌, ◌%◌, ◌≤◌, ◌<◌}
@@ -16,7 +16,7 @@ use Rattle.model.specs.Lists.{run, last_state, last_store}
 use Rattle.model.specs.Idle.{turned, quietly, NothingToMove, Quiet, QuietStep}
 use Rattle.model.proofs.one_slot.Rules.{Keeps}
 use Rattle.model.proofs.one_slot.Kept.{slot_kept}
-use Rattle.model.proofs.idle.QuietSlot.{scan-shifted, oldest-empty, phase-stays, quietAnswer, quiet-slot}
+use Rattle.model.proofs.idle.QuietSlot.{scan_shifted, oldest_empty, phase_stays, quiet_answer, quiet_slot}
 
 -- n idle slots are i of them and then j.
 pub idles-parts : (n i j : ℕ) → n ≡ i + j → idles n ≡ idles i ++ idles j
@@ -26,7 +26,7 @@ idles-parts n i j parts = ap idles parts ∙ sym (replicate-append-replicate i j
 pub record PassedQuietly (design : Design) (x : State) (store : List ℕ) (m : ℕ) (y : State) : Type 0 where
   pub state_is : last_state design x store (idles m) ≡ y
   pub store_is : last_store design x store (idles m) ≡ store
-  pub steps-quiet : All QuietStep (run design x store (idles m))
+  pub steps_quiet : All QuietStep (run design x store (idles m))
   pub kept : Keeps design y
 
 pub none_passed : (design : Design) (x y : State) (store : List ℕ) → x ≡ y → Keeps design x
@@ -34,34 +34,34 @@ pub none_passed : (design : Design) (x y : State) (store : List ℕ) → x ≡ y
 none_passed design x y store e v = record {
   state_is = e;
   store_is = refl;
-  steps-quiet = tt;
+  steps_quiet = tt;
   kept = subst (Keeps design) e v;
 }
 
 pub one_more : (design : Design) (x y z : State) (store : List ℕ) (m : ℕ)
-    → slot design x store idle ≡ quietAnswer y store
+    → slot design x store idle ≡ quiet_answer y store
     → PassedQuietly design y store m z
     → PassedQuietly design x store (suc m) z
 one_more design x y z store m e p = record {
   state_is = ap (λ (a : Answer). last_state design a.state a.store (idles m)) e ∙ p.state_is;
   store_is = ap (λ (a : Answer). last_store design a.state a.store (idles m)) e ∙ p.store_is;
-  steps-quiet = (
+  steps_quiet = (
     ap (λ (a : Answer). a.reply) e,
-    subst (λ (a : Answer). All QuietStep (run design a.state a.store (idles m))) (sym e) p.steps-quiet,
+    subst (λ (a : Answer). All QuietStep (run design a.state a.store (idles m))) (sym e) p.steps_quiet,
   );
   kept = p.kept;
 }
 
 -- The first of several quiet slots, and the others from what it leaves.
-first-quiet : (m : ℕ) (x : State) → Quiet (suc m) x → Quiet 1 x
-first-quiet m x quiet = record {
+first_quiet : (m : ℕ) (x : State) → Quiet (suc m) x → Quiet 1 x
+first_quiet m x quiet = record {
   within = omega (arith, quiet.within);
   empties = λ i l. quiet.empties i (omega (arith, l));
   still = λ l. quiet.still (omega (arith, l));
 }
 
-others-quiet : (m : ℕ) (x : State) → Quiet (suc m) x → Quiet m (quietly 1 x)
-others-quiet m x quiet = record {
+others_quiet : (m : ℕ) (x : State) → Quiet (suc m) x → Quiet m (quietly 1 x)
+others_quiet m x quiet = record {
   within = omega (arith, quiet.within, length-append (drop 1 x.cells) (empty ∷ []), length-drop 1 x.cells);
   empties = λ i l.
       get_or-append (drop 1 x.cells) (empty ∷ []) empty i
@@ -75,7 +75,7 @@ others-quiet m x quiet = record {
     nothing-still n = record {
       none_to_write = n.none_to_write;
       none_to_read =
-          scan-shifted (head_bytes x) x.cells (oldest-empty x.cells (quiet.empties 0 (omega arith)))
+          scan_shifted (head_bytes x) x.cells (oldest_empty x.cells (quiet.empties 0 (omega arith)))
           ∙ n.none_to_read;
     }
 
@@ -87,10 +87,10 @@ pub quietly-plus : (m n : ℕ) (x : State) → m + n ≤ length x.cells → quie
 quietly-plus m n x h =
     ap (λ (phase : ℕ). with_cells (quietly n (quietly m x)).cells (with_phase phase x))
     (turned-twice x.sizes.b x.phase m n)
-    ∙ ap (λ (cells : List Cell). with_cells cells (turned (m + n) x)) cells-plus
+    ∙ ap (λ (cells : List Cell). with_cells cells (turned (m + n) x)) cells_plus
   where
-    cells-plus : (quietly n (quietly m x)).cells ≡ (quietly (m + n) x).cells
-    cells-plus =
+    cells_plus : (quietly n (quietly m x)).cells ≡ (quietly (m + n) x).cells
+    cells_plus =
         ap (λ (cells : List Cell). cells ++ replicate n empty)
         (drop-append-le n (drop m x.cells) (replicate m empty) (omega (arith, h, length-drop m x.cells)))
         ∙ append_assoc (drop n (drop m x.cells)) (replicate m empty) (replicate n empty)
@@ -99,32 +99,32 @@ quietly-plus m n x h =
 
 quietly-none : (x : State) → x.phase < x.sizes.b → x ≡ quietly 0 x
 quietly-none x l =
-    ap (λ (phase : ℕ). with_phase phase x) (phase-stays x l)
+    ap (λ (phase : ℕ). with_phase phase x) (phase_stays x l)
     ∙ ap (λ (cells : List Cell). with_cells cells (turned 0 x)) (sym (append-nil x.cells))
 
 -- m quiet slots.
 module _ (design : Design) where
-  pub kept-quietly : (x : State) (store : List ℕ) → Keeps design x → store_bytes x.sizes ≤ length store → Quiet 1 x
+  pub kept_quietly : (x : State) (store : List ℕ) → Keeps design x → store_bytes x.sizes ≤ length store → Quiet 1 x
       → Keeps design (quietly 1 x)
-  kept-quietly x store kept long quiet =
-      subst (λ (a : Answer). Keeps design a.state) (quiet-slot design x store kept long quiet)
+  kept_quietly x store kept long quiet =
+      subst (λ (a : Answer). Keeps design a.state) (quiet_slot design x store kept long quiet)
       (slot_kept design x store idle (omega (arith, quiet.within, kept.within.cells_long)) kept).kept
 
-  pub quiet-slots : (m : ℕ) (x : State) (store : List ℕ) → Keeps design x → store_bytes x.sizes ≤ length store
+  pub quiet_slots : (m : ℕ) (x : State) (store : List ℕ) → Keeps design x → store_bytes x.sizes ≤ length store
       → Quiet m x → PassedQuietly design x store m (quietly m x)
-  quiet-slots zero x store kept long quiet =
+  quiet_slots zero x store kept long quiet =
       none_passed design x (quietly 0 x) store (quietly-none x kept.phase_ok) kept
-  quiet-slots (suc m) x store kept long quiet =
-      one_more design x (quietly 1 x) (quietly (suc m) x) store m (quiet-slot design x store kept long first)
+  quiet_slots (suc m) x store kept long quiet =
+      one_more design x (quietly 1 x) (quietly (suc m) x) store m (quiet_slot design x store kept long first)
       (subst (PassedQuietly design (quietly 1 x) store m) together
-      (quiet-slots m (quietly 1 x) store (kept-quietly x store kept long first) long (others-quiet m x quiet)))
+      (quiet_slots m (quietly 1 x) store (kept_quietly x store kept long first) long (others_quiet m x quiet)))
     where
       first : Quiet 1 x
-      first = first-quiet m x quiet
+      first = first_quiet m x quiet
 
-      one-and-others : 1 + m ≡ suc m
-      one-and-others = omega arith
+      one_and_others : 1 + m ≡ suc m
+      one_and_others = omega arith
 
       together : quietly m (quietly 1 x) ≡ quietly (suc m) x
       together =
-          quietly-plus 1 m x (omega (arith, quiet.within)) ∙ ap (λ (k : ℕ). quietly k x) one-and-others
+          quietly-plus 1 m x (omega (arith, quiet.within)) ∙ ap (λ (k : ℕ). quietly k x) one_and_others

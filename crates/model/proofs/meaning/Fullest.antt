@@ -10,12 +10,12 @@ use lib.Dec.{eqb, ltb, leb}
 use borrow.Author.Tests.{eqb-true, eqb-false, leb-true, leb-false, ltb-true, ltb-false}
 use Rattle.model.specs.Basics.{choose}
 use Rattle.model.specs.Slot.{fuller, fullest}
-use Rattle.model.proofs.basics.Tests.{by-test, none-not-some, some_inj}
+use Rattle.model.proofs.basics.Tests.{by_test, none_not_some, some_inj}
 
 pub record IsFullest (b : ℕ) (bytes : ℕ → ℕ) (n q : ℕ) : Type 0 where
   pub below : q < n
   pub has_block : b ≤ bytes q
-  pub has-most : (p : ℕ) → p < n → bytes p ≤ bytes q
+  pub has_most : (p : ℕ) → p < n → bytes p ≤ bytes q
   pub lowest : (p : ℕ) → p < q → bytes p < bytes q
 
 -- What the scan of the first n queues has found.
@@ -26,44 +26,44 @@ pub data Found (b : ℕ) (bytes : ℕ → ℕ) (n : ℕ) : Option ℕ → Type 0
 -- A fact of the queues below n, and of n.
 one_more : (P : ℕ → Type 0) (n : ℕ) → ((p : ℕ) → p < n → P p) → P n → (p : ℕ) → p < suc n → P p
 one_more P n h k p l =
-    by-test (eqb n p)
+    by_test (eqb n p)
     (λ t. subst P (eqb-true n p t) k)
     (λ t. h p (omega (arith, eqb-false n p t)))
 
 module _ (b : ℕ) (bytes : ℕ → ℕ) (n : ℕ) where
   next : (o : Option ℕ) → Found b bytes n o → Found b bytes (suc n) (fuller b bytes n o)
-  next o (found_none h) = by-test (leb b (bytes n)) yes-case no-case
+  next o (found_none h) = by_test (leb b (bytes n)) yes_case no_case
     where
-      yes-case : leb b (bytes n) ≡ true → Found b bytes (suc n) (choose (leb b (bytes n)) (some n) none)
-      yes-case t = rw t (found-queue {q = n} (record {
+      yes_case : leb b (bytes n) ≡ true → Found b bytes (suc n) (choose (leb b (bytes n)) (some n) none)
+      yes_case t = rw t (found-queue {q = n} (record {
         below = omega arith;
         has_block = leb-true b (bytes n) t;
-        has-most = one_more (λ p. bytes p ≤ bytes n) n (λ p l. omega (arith, h p l, leb-true b (bytes n) t))
+        has_most = one_more (λ p. bytes p ≤ bytes n) n (λ p l. omega (arith, h p l, leb-true b (bytes n) t))
             (omega arith);
         lowest = λ p l. omega (arith, h p l, leb-true b (bytes n) t);
       }))
 
-      no-case : leb b (bytes n) ≡ false → Found b bytes (suc n) (choose (leb b (bytes n)) (some n) none)
-      no-case t = rw t (found_none (one_more (λ p. bytes p < b) n h (leb-false b (bytes n) t)))
-  next o (found-queue {q = q} f) = by-test (ltb (bytes q) (bytes n)) yes-case no-case
+      no_case : leb b (bytes n) ≡ false → Found b bytes (suc n) (choose (leb b (bytes n)) (some n) none)
+      no_case t = rw t (found_none (one_more (λ p. bytes p < b) n h (leb-false b (bytes n) t)))
+  next o (found-queue {q = q} f) = by_test (ltb (bytes q) (bytes n)) yes_case no_case
     where
-      yes-case : ltb (bytes q) (bytes n) ≡ true → Found b bytes (suc n)
+      yes_case : ltb (bytes q) (bytes n) ≡ true → Found b bytes (suc n)
           (choose (ltb (bytes q) (bytes n)) (some n) (some q))
-      yes-case t = rw t (found-queue {q = n} (record {
+      yes_case t = rw t (found-queue {q = n} (record {
         below = omega arith;
         has_block = omega (arith, f.has_block, ltb-true (bytes q) (bytes n) t);
-        has-most =
+        has_most =
             one_more (λ p. bytes p ≤ bytes n) n
-            (λ p l. omega (arith, f.has-most p l, ltb-true (bytes q) (bytes n) t)) (omega arith);
-        lowest = λ p l. omega (arith, f.has-most p l, ltb-true (bytes q) (bytes n) t);
+            (λ p l. omega (arith, f.has_most p l, ltb-true (bytes q) (bytes n) t)) (omega arith);
+        lowest = λ p l. omega (arith, f.has_most p l, ltb-true (bytes q) (bytes n) t);
       }))
 
-      no-case : ltb (bytes q) (bytes n) ≡ false → Found b bytes (suc n)
+      no_case : ltb (bytes q) (bytes n) ≡ false → Found b bytes (suc n)
           (choose (ltb (bytes q) (bytes n)) (some n) (some q))
-      no-case t = rw t (found-queue {q = q} (record {
+      no_case t = rw t (found-queue {q = q} (record {
         below = omega (arith, f.below);
         has_block = f.has_block;
-        has-most = one_more (λ p. bytes p ≤ bytes q) n f.has-most (ltb-false (bytes q) (bytes n) t);
+        has_most = one_more (λ p. bytes p ≤ bytes q) n f.has_most (ltb-false (bytes q) (bytes n) t);
         lowest = f.lowest;
       }))
 
@@ -75,7 +75,7 @@ pub fullest-some : (b : ℕ) (bytes : ℕ → ℕ) (n q : ℕ) → fullest b byt
 fullest-some b bytes n q e = go (fullest b bytes n) (found b bytes n) e
   where
     go : (o : Option ℕ) → Found b bytes n o → o ≡ some q → IsFullest b bytes n q
-    go o (found_none h) e = absurd (none-not-some q e)
+    go o (found_none h) e = absurd (none_not_some q e)
     go o (found-queue {q = p} f) e = subst (IsFullest b bytes n) (some_inj p q e) f
 
 pub fullest-none : (b : ℕ) (bytes : ℕ → ℕ) (n : ℕ) → fullest b bytes n ≡ none → (p : ℕ) → p < n → bytes p < b
@@ -83,4 +83,4 @@ fullest-none b bytes n e = go (fullest b bytes n) (found b bytes n) e
   where
     go : (o : Option ℕ) → Found b bytes n o → o ≡ none → (p : ℕ) → p < n → bytes p < b
     go o (found_none h) e = h
-    go o (found-queue {q = p} f) e = absurd (none-not-some p (sym e))
+    go o (found-queue {q = p} f) e = absurd (none_not_some p (sym e))

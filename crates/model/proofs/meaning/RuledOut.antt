@@ -11,30 +11,30 @@ use Rattle.model.specs.Sizes.{Sizes}
 use Rattle.model.specs.State.{Byte}
 use Rattle.model.specs.Lists.{Step}
 use Rattle.model.specs.Demand.{ListMeets}
-use Rattle.model.proofs.basics.Tests.{none-not-some}
+use Rattle.model.proofs.basics.Tests.{none_not_some}
 
 module _ (s : Sizes) (store : List ℕ) (step : Step) (steps : List Step) (meets : ListMeets s store (step ∷ steps)) where
   refused-delivers : (n : ℕ) (y : Byte) → step.reply.number ≡ n + 1 → step.reply.delivered ≡ some y → ⊥
   refused-delivers n y e d =
-      none-not-some y (sym (meets.refused.0.delivers_nothing (λ z. omega (arith, z, e))) ∙ d)
+      none_not_some y (sym (meets.refused.0.delivers_nothing (λ z. omega (arith, z, e))) ∙ d)
 
   refused-writes : (n q : ℕ) → step.reply.number ≡ n + 1 → step.reply.written ≡ some q → ⊥
-  refused-writes n q e d = none-not-some q (sym (meets.refused.0.Writes-nothing (λ z. omega (arith, z, e))) ∙ d)
+  refused-writes n q e d = none_not_some q (sym (meets.refused.0.Writes-nothing (λ z. omega (arith, z, e))) ∙ d)
 
   refused-reads : (n q : ℕ) → step.reply.number ≡ n + 1 → step.reply.read ≡ some q → ⊥
-  refused-reads n q e d = none-not-some q (sym (meets.refused.0.Reads-nothing (λ z. omega (arith, z, e))) ∙ d)
+  refused-reads n q e d = none_not_some q (sym (meets.refused.0.Reads-nothing (λ z. omega (arith, z, e))) ∙ d)
 
-  tail-over-as-joined : s.Q * (s.b - 1) + s.b < step.joined_fill → ⊥
-  tail-over-as-joined h = omega (arith, h, meets.caches.0.tail_joined)
+  tail_over_as_joined : s.Q * (s.b - 1) + s.b < step.joined_fill → ⊥
+  tail_over_as_joined h = omega (arith, h, meets.caches.0.tail_joined)
 
-  tail-over-in-the-end : s.Q * (s.b - 1) + s.b < length step.state.tail → ⊥
-  tail-over-in-the-end h = omega (arith, h, meets.caches.0.tail_ends)
+  tail_over_in_the_end : s.Q * (s.b - 1) + s.b < length step.state.tail → ⊥
+  tail_over_in_the_end h = omega (arith, h, meets.caches.0.tail_ends)
 
-  head-over-as-read : 2 * (s.Q * (s.b - 1)) + 1 < step.read_fill → ⊥
-  head-over-as-read h = omega (arith, h, meets.caches.0.head_read)
+  head_over_as_read : 2 * (s.Q * (s.b - 1)) + 1 < step.read_fill → ⊥
+  head_over_as_read h = omega (arith, h, meets.caches.0.head_read)
 
-  head-over-in-the-end : 2 * (s.Q * (s.b - 1)) + 1 < length step.state.head → ⊥
-  head-over-in-the-end h = omega (arith, h, meets.caches.0.head_ends)
+  head_over_in_the_end : 2 * (s.Q * (s.b - 1)) + 1 < length step.state.head → ⊥
+  head_over_in_the_end h = omega (arith, h, meets.caches.0.head_ends)
 
   answers-8 : step.reply.number ≡ 8 → ⊥
   answers-8 e = meets.no_miss.0.not-8 e

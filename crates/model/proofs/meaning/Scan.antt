@@ -1,6 +1,6 @@
 -- The walk with credits is the paper's scan: it stops at the first Owed cell that its queue's head bytes do not
 -- cover, the Owed cells of the queue before it counted. It stops at a queue exactly where some queue is critical.
--- `scan-from-oldest`, `scan-some` and `scan-none` say it.
+-- `scan_from_oldest`, `scan_some` and `scan_none` say it.
 use mathlib.Core.Path.{◌≡◌, refl, ap, sym, ◌∙◌, fun_ext}
 use mathlib.Core.List.{List, [], ◌∷◌, ◌++◌}
 use mathlib.Core.Option.{Option, some, none}
@@ -11,52 +11,52 @@ use borrow.Author.Tests.{eqb-true, eq-eqb, ne_eqb, leb-true, leb-false}
 use Rattle.model.specs.Basics.{choose, update}
 use Rattle.model.specs.State.{Cell, empty, held, owed, owes, owed_of}
 use Rattle.model.specs.Slot.{refill_queue}
-use Rattle.model.proofs.basics.Tests.{by-test, by_zero, none-not-some, some_inj}
-use Rattle.model.proofs.basics.Cells.{owed-append, owed-here}
+use Rattle.model.proofs.basics.Tests.{by_test, by_zero, none_not_some, some_inj}
+use Rattle.model.proofs.basics.Cells.{owed_append, owed_here}
 
 -- One Owed cell of the walk: it stops there, or uses one credit and goes on.
-pub scan-stops : (c : ℕ → ℕ) (q : ℕ) (cells : List Cell) → c q ≡ 0 → refill_queue c (owed q ∷ cells) ≡ some q
-scan-stops c q cells z = rw (eq-eqb (c q) 0 z)
+pub scan_stops : (c : ℕ → ℕ) (q : ℕ) (cells : List Cell) → c q ≡ 0 → refill_queue c (owed q ∷ cells) ≡ some q
+scan_stops c q cells z = rw (eq-eqb (c q) 0 z)
 
-pub scan-goes-on : (c : ℕ → ℕ) (q : ℕ) (cells : List Cell) → 1 ≤ c q
+pub scan_goes_on : (c : ℕ → ℕ) (q : ℕ) (cells : List Cell) → 1 ≤ c q
     → refill_queue c (owed q ∷ cells) ≡ refill_queue (update c q (c q - 1)) cells
-scan-goes-on c q cells u = rw (ne_eqb (c q) 0 (λ e. omega arith))
+scan_goes_on c q cells u = rw (ne_eqb (c q) 0 (λ e. omega arith))
 
 -- A covered cell lowers its queue's Owed cells and its credits together.
-pub credit-used : (c : ℕ → ℕ) (q p : ℕ) (cells : List Cell) → 1 ≤ c q
+pub credit_used : (c : ℕ → ℕ) (q p : ℕ) (cells : List Cell) → 1 ≤ c q
     → owed_of p (owed q ∷ cells) + update c q (c q - 1) p ≡ owed_of p cells + c p
-credit-used c q p cells u =
-    by-test (eqb q p)
+credit_used c q p cells u =
+    by_test (eqb q p)
     (λ t. rw t (omega (arith, ap c (eqb-true q p t))))
     (λ t. rw t (omega arith))
 
 -- The queue at which the scan stops has more Owed cells than credits; where it does not stop, every Owed cell is
 -- covered.
-pub scan-some : (c : ℕ → ℕ) (cells : List Cell) (q : ℕ) → refill_queue c cells ≡ some q → c q < owed_of q cells
-scan-some c [] q e = absurd (none-not-some q e)
-scan-some c (empty ∷ cells) q e = omega (arith, scan-some c cells q e)
-scan-some c (held p v ∷ cells) q e = omega (arith, scan-some c cells q e)
-scan-some c (owed p ∷ cells) q e =
+pub scan_some : (c : ℕ → ℕ) (cells : List Cell) (q : ℕ) → refill_queue c cells ≡ some q → c q < owed_of q cells
+scan_some c [] q e = absurd (none_not_some q e)
+scan_some c (empty ∷ cells) q e = omega (arith, scan_some c cells q e)
+scan_some c (held p v ∷ cells) q e = omega (arith, scan_some c cells q e)
+scan_some c (owed p ∷ cells) q e =
     by_zero (c p)
-    (λ z. let s : p ≡ q = some_inj p q (sym (scan-stops c p cells z) ∙ e) in
-    omega (arith, ap c s, owed-here q cells, ap (λ (i : ℕ). owed_of q (owed i ∷ cells)) s))
+    (λ z. let s : p ≡ q = some_inj p q (sym (scan_stops c p cells z) ∙ e) in
+    omega (arith, ap c s, owed_here q cells, ap (λ (i : ℕ). owed_of q (owed i ∷ cells)) s))
     (λ u. omega (
       arith,
-      credit-used c p q cells u,
-      scan-some (update c p (c p - 1)) cells q (sym (scan-goes-on c p cells u) ∙ e),
+      credit_used c p q cells u,
+      scan_some (update c p (c p - 1)) cells q (sym (scan_goes_on c p cells u) ∙ e),
     ))
 
-pub scan-none : (c : ℕ → ℕ) (cells : List Cell) → refill_queue c cells ≡ none → (p : ℕ) → owed_of p cells ≤ c p
-scan-none c [] e p = omega arith
-scan-none c (empty ∷ cells) e p = omega (arith, scan-none c cells e p)
-scan-none c (held q v ∷ cells) e p = omega (arith, scan-none c cells e p)
-scan-none c (owed q ∷ cells) e p =
+pub scan_none : (c : ℕ → ℕ) (cells : List Cell) → refill_queue c cells ≡ none → (p : ℕ) → owed_of p cells ≤ c p
+scan_none c [] e p = omega arith
+scan_none c (empty ∷ cells) e p = omega (arith, scan_none c cells e p)
+scan_none c (held q v ∷ cells) e p = omega (arith, scan_none c cells e p)
+scan_none c (owed q ∷ cells) e p =
     by_zero (c q)
-    (λ z. absurd (none-not-some q (sym e ∙ scan-stops c q cells z)))
+    (λ z. absurd (none_not_some q (sym e ∙ scan_stops c q cells z)))
     (λ u. omega (
       arith,
-      credit-used c q p cells u,
-      scan-none (update c q (c q - 1)) cells (sym (scan-goes-on c q cells u) ∙ e) p,
+      credit_used c q p cells u,
+      scan_none (update c q (c q - 1)) cells (sym (scan_goes_on c q cells u) ∙ e) p,
     ))
 
 -- The paper's scan, word for word: `before` are the cells already passed.
@@ -67,36 +67,36 @@ scan head before (held q v ∷ cells) = scan head (before ++ (held q v ∷ [])) 
 scan head before (owed q ∷ cells) =
     choose (leb (head q) (owed_of q before)) (some q) (scan head (before ++ (owed q ∷ [])) cells)
 
-abbrev creditsLeft : (ℕ → ℕ) → List Cell → ℕ → ℕ
-creditsLeft head before q = head q - owed_of q before
+abbrev credits_left : (ℕ → ℕ) → List Cell → ℕ → ℕ
+credits_left head before q = head q - owed_of q before
 
 nothing-owed : (head : ℕ → ℕ) (before : List Cell) (cell : Cell) → ((q : ℕ) → owes q cell ≡ 0)
-    → creditsLeft head before ≡ creditsLeft head (before ++ (cell ∷ []))
-nothing-owed head before cell z = fun_ext (λ q. omega (arith, z q, owed-append q before (cell ∷ [])))
+    → credits_left head before ≡ credits_left head (before ++ (cell ∷ []))
+nothing-owed head before cell z = fun_ext (λ q. omega (arith, z q, owed_append q before (cell ∷ [])))
 
-one-owed : (head : ℕ → ℕ) (before : List Cell) (q : ℕ)
-    → update (creditsLeft head before) q (creditsLeft head before q - 1) ≡ creditsLeft head (before ++ (owed q ∷ []))
-one-owed head before q = fun_ext (λ p.
-    by-test (eqb q p)
-    (λ t. rw (owed-append p before (owed q ∷ []), t) (omega (arith, ap (creditsLeft head before) (eqb-true q p t))))
-    (λ t. rw (owed-append p before (owed q ∷ []), t) (omega arith)))
+one_owed : (head : ℕ → ℕ) (before : List Cell) (q : ℕ)
+    → update (credits_left head before) q (credits_left head before q - 1) ≡ credits_left head (before ++ (owed q ∷ []))
+one_owed head before q = fun_ext (λ p.
+    by_test (eqb q p)
+    (λ t. rw (owed_append p before (owed q ∷ []), t) (omega (arith, ap (credits_left head before) (eqb-true q p t))))
+    (λ t. rw (owed_append p before (owed q ∷ []), t) (omega arith)))
 
-pub scan-is : (head : ℕ → ℕ) (before cells : List Cell)
-    → refill_queue (creditsLeft head before) cells ≡ scan head before cells
-scan-is head before [] = refl
-scan-is head before (empty ∷ cells) =
+pub scan_is : (head : ℕ → ℕ) (before cells : List Cell)
+    → refill_queue (credits_left head before) cells ≡ scan head before cells
+scan_is head before [] = refl
+scan_is head before (empty ∷ cells) =
     ap (λ (c : ℕ → ℕ). refill_queue c cells) (nothing-owed head before empty (λ q. refl))
-    ∙ scan-is head (before ++ (empty ∷ [])) cells
-scan-is head before (held q v ∷ cells) =
+    ∙ scan_is head (before ++ (empty ∷ [])) cells
+scan_is head before (held q v ∷ cells) =
     ap (λ (c : ℕ → ℕ). refill_queue c cells) (nothing-owed head before (held q v) (λ q. refl))
-    ∙ scan-is head (before ++ (held q v ∷ [])) cells
-scan-is head before (owed q ∷ cells) =
-    by-test (leb (head q) (owed_of q before))
-    (λ t. rw t (scan-stops (creditsLeft head before) q cells (omega (arith, leb-true (head q) (owed_of q before) t))))
-    (λ t. rw t (scan-goes-on (creditsLeft head before) q cells (omega (arith, leb-false (head q) (owed_of q before) t))
-    ∙ ap (λ (c : ℕ → ℕ). refill_queue c cells) (one-owed head before q)
-    ∙ scan-is head (before ++ (owed q ∷ [])) cells))
+    ∙ scan_is head (before ++ (held q v ∷ [])) cells
+scan_is head before (owed q ∷ cells) =
+    by_test (leb (head q) (owed_of q before))
+    (λ t. rw t (scan_stops (credits_left head before) q cells (omega (arith, leb-true (head q) (owed_of q before) t))))
+    (λ t. rw t (scan_goes_on (credits_left head before) q cells (omega (arith, leb-false (head q) (owed_of q before) t))
+    ∙ ap (λ (c : ℕ → ℕ). refill_queue c cells) (one_owed head before q)
+    ∙ scan_is head (before ++ (owed q ∷ [])) cells))
 
-pub scan-from-oldest : (head : ℕ → ℕ) (cells : List Cell) → refill_queue head cells ≡ scan head [] cells
-scan-from-oldest head cells =
-    ap (λ (c : ℕ → ℕ). refill_queue c cells) (fun_ext (λ q. omega arith)) ∙ scan-is head [] cells
+pub scan_from_oldest : (head : ℕ → ℕ) (cells : List Cell) → refill_queue head cells ≡ scan head [] cells
+scan_from_oldest head cells =
+    ap (λ (c : ℕ → ℕ). refill_queue c cells) (fun_ext (λ q. omega arith)) ∙ scan_is head [] cells

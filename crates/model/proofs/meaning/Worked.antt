@@ -1,10 +1,10 @@
--- What was worked by hand is what the definitions give, by computing them: `worked-slots`, `worked-blocks`,
--- `worked-idle`.
+-- What was worked by hand is what the definitions give, by computing them: `worked_slots`, `worked_blocks`,
+-- `worked_idle`.
 use mathlib.Core.Path.{refl}
 use Rattle.model.specs.Worked.{WorkedSlots, WorkedBlocks, WorkedIdle}
 
-pub worked-slots : WorkedSlots
-worked-slots = record {
+pub worked_slots : WorkedSlots
+worked_slots = record {
   fresh-is = refl;
   steps_are = refl;
   state_left = refl;
@@ -18,11 +18,11 @@ worked-slots = record {
   greatest_is = refl;
 }
 
-pub worked-blocks : WorkedBlocks
-worked-blocks = record { three_written = refl; ring_turned = refl }
+pub worked_blocks : WorkedBlocks
+worked_blocks = record { three_written = refl; ring_turned = refl }
 
-pub worked-idle : WorkedIdle
-worked-idle = record {
+pub worked_idle : WorkedIdle
+worked_idle = record {
   two_lead = refl;
   write_due = refl;
   no_write_due = refl;

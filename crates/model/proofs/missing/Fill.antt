@@ -19,48 +19,48 @@ use Rattle.model.specs.Slot.{Call, without, oldest_cell, moves, fullest, queue_t
 use Rattle.model.specs.Slot.{after_read, after_phase, asked, wrote, halves_taken}
 use Rattle.model.specs.Calls.{idles}
 use Rattle.model.specs.Demand.{block_of_arrivals, fill_from, requests_from}
-use Rattle.model.proofs.basics.Tests.{by-test, by-option, at-queue, eqb_same}
+use Rattle.model.proofs.basics.Tests.{by_test, by_option, at_queue_lem, eqb_same}
 use Rattle.model.proofs.basics.Sums.{sum_ones}
-use Rattle.model.proofs.basics.Cells.{owed-empties}
+use Rattle.model.proofs.basics.Cells.{owed_empties}
 use Rattle.model.proofs.meaning.Fullest.{fullest-some, fullest-none}
-use Rattle.model.proofs.meaning.Scan.{scan-some}
-use Rattle.model.proofs.basics.Rings.{ring-set-same, ring-set-other}
+use Rattle.model.proofs.meaning.Scan.{scan_some}
+use Rattle.model.proofs.basics.Rings.{ring-set_same, ring-set_other}
 use Rattle.model.proofs.one_slot.Halves.{all_left}
-use Rattle.model.proofs.one_slot.Accepted.{earlyRefusals}
-use Rattle.model.proofs.one_slot.Kept.{read-scan}
-use Rattle.model.proofs.missing.Slots.{Meets8, Runnable, state_after, store_after, span-and-queues, replicate-snoc}
-use Rattle.model.proofs.missing.Slots.{cells-some, not_3, not_2, meets-later}
+use Rattle.model.proofs.one_slot.Accepted.{early_refusals}
+use Rattle.model.proofs.one_slot.Kept.{read_scan}
+use Rattle.model.proofs.missing.Slots.{Meets8, Runnable, state_after, store_after, span-and_queues, replicate-snoc}
+use Rattle.model.proofs.missing.Slots.{cells_some, not-3, not-2, meets-later}
 use Rattle.model.proofs.missing.Drain.{requests}
 
 -- The queues below q have their block, and j bytes of queue q are in the tail.
 pub record Filling (q j : ℕ) (x : State) : Type 0 where
   pub cells_are : x.cells ≡ replicate (span x.sizes) empty
-  pub head-none : x.head ≡ []
+  pub head_none : x.head ≡ []
   pub phase_is : x.phase ≡ j
   pub tail_is : x.tail ≡ replicate j (byte q 0)
   pub filled : (p : ℕ) → p < q → blocks x p ≡ 1
-  pub to-come : (p : ℕ) → q ≤ p → blocks x p ≡ 0
+  pub to_come : (p : ℕ) → q ≤ p → blocks x p ≡ 0
 
 -- Bytes that are all alike.
-count-alike : (n q p : ℕ) → count_of p (replicate n (byte q 0)) ≡ choose (eqb q p) n 0
-count-alike zero q p = by-test (eqb q p) (λ t. rw t) (λ t. rw t)
-count-alike (suc n) q p =
-    by-test (eqb q p)
-    (λ t. rw t (ap suc (rw t at (count-alike n q p))))
-    (λ t. rw t (rw t at (count-alike n q p)))
+count_alike : (n q p : ℕ) → count_of p (replicate n (byte q 0)) ≡ choose (eqb q p) n 0
+count_alike zero q p = by_test (eqb q p) (λ t. rw t) (λ t. rw t)
+count_alike (suc n) q p =
+    by_test (eqb q p)
+    (λ t. rw t (ap suc (rw t at (count_alike n q p))))
+    (λ t. rw t (rw t at (count_alike n q p)))
 
 without-alike : (n q : ℕ) → without n q (replicate n (byte q 0)) ≡ []
 without-alike zero q = refl
 without-alike (suc n) q = rw (eqb_same q) (without-alike n q)
 
 -- An empty lookahead, one slot on.
-empties-shift : (n : ℕ) → 1 ≤ n → drop 1 (replicate n empty) ++ (empty ∷ []) ≡ replicate n empty
-empties-shift zero l = absurd (omega (arith, l))
-empties-shift (suc n) l = replicate-snoc n empty
+empties_shift : (n : ℕ) → 1 ≤ n → drop 1 (replicate n empty) ++ (empty ∷ []) ≡ replicate n empty
+empties_shift zero l = absurd (omega (arith, l))
+empties_shift (suc n) l = replicate-snoc n empty
 
-oldest-empty : (n : ℕ) → oldest_cell (replicate n empty) ≡ empty
-oldest-empty zero = refl
-oldest-empty (suc n) = refl
+oldest_empty : (n : ℕ) → oldest_cell (replicate n empty) ≡ empty
+oldest_empty zero = refl
+oldest_empty (suc n) = refl
 
 -- One slot with an arrival of queue q.
 module _ {limits : Limits} {q j : ℕ} {x : State} {store : List ℕ} (calls : List Call)
@@ -81,22 +81,22 @@ module _ {limits : Limits} {q j : ℕ} {x : State} {store : List ℕ} (calls : L
   short = omega (arith, v.phase_is, ready.kept.phase_ok)
 
   leaves_empty : oldest_cell x.cells ≡ empty
-  leaves_empty = ap oldest_cell v.cells_are ∙ oldest-empty (span x.sizes)
+  leaves_empty = ap oldest_cell v.cells_are ∙ oldest_empty (span x.sizes)
 
-  cells-after : y.cells ≡ replicate (span x.sizes) empty
-  cells-after =
+  cells_after : y.cells ≡ replicate (span x.sizes) empty
+  cells_after =
       ap (λ (cells : List Cell). drop 1 cells ++ (empty ∷ [])) v.cells_are
-      ∙ empties-shift (span x.sizes) (cells-some ready)
+      ∙ empties_shift (span x.sizes) (cells_some ready)
 
-  head-after : y.head ≡ []
-  head-after = rw leaves_empty v.head-none
+  head_after : y.head ≡ []
+  head_after = rw leaves_empty v.head_none
 
   tail_after : y.tail ≡ replicate (suc j) (byte q 0)
   tail_after =
       append-nil _ ∙ ap (λ (bytes : List Byte). bytes ++ (byte q 0 ∷ [])) v.tail_is ∙ replicate-snoc j (byte q 0)
 
-  tail-count : (p : ℕ) → tail_bytes y p ≡ choose (eqb q p) (suc j) 0
-  tail-count p = ap (count_of p) tail_after ∙ count-alike (suc j) q p
+  tail_count : (p : ℕ) → tail_bytes y p ≡ choose (eqb q p) (suc j) 0
+  tail_count p = ap (count_of p) tail_after ∙ count_alike (suc j) q p
 
   -- The queue has room, and so has the tail.
   ring-room : eqb (tail_bytes x q + x.sizes.b * blocks x q) (x.sizes.K * x.sizes.b) ≡ false
@@ -107,41 +107,41 @@ module _ {limits : Limits} {q j : ℕ} {x : State} {store : List ℕ} (calls : L
         e,
         short,
         ap (count_of q) v.tail_is,
-        rw (eqb_same q) at (count-alike j q q),
-        ap (λ (n : ℕ). x.sizes.b * n) (v.to-come q (omega arith)),
+        rw (eqb_same q) at (count_alike j q q),
+        ap (λ (n : ℕ). x.sizes.b * n) (v.to_come q (omega arith)),
         mul-le-mul_right {m = 1} x.sizes.b some_block,
       ))
     where
       some_block : 1 ≤ x.sizes.K
       some_block = omega (arith, ready.kept.within.firsts q below)
 
-  tail-room : leb (tail_size x.sizes) (length x.tail) ≡ false
-  tail-room =
+  tail_room : leb (tail_size x.sizes) (length x.tail) ≡ false
+  tail_room =
       lt-leb (tail_size x.sizes) (length x.tail)
       (omega (arith, short, ap length v.tail_is, length-replicate j (byte q 0)))
 
   all_taken : halves_taken x call ≡ call
   all_taken = all_left x call (rw ring-room) refl
 
-  none-early : first_refusal (earlyRefusals (one_fewer limits) x store call) ≡ 0
-  none-early =
+  none_early : first_refusal (early_refusals (one_fewer limits) x store call) ≡ 0
+  none_early =
       rw (
-        not_3 ready,
-        not_2 ready,
+        not-3 ready,
+        not-2 ready,
         lt-leb x.sizes.Q q below,
         ring-room,
         leaves_empty,
-        tail-room,
+        tail_room,
       )
 
   none_read : queue_to_read (wrote x call) ≡ none
   none_read =
-      by-option (queue_to_read (wrote x call)) (λ e. e)
+      by_option (queue_to_read (wrote x call)) (λ e. e)
       (λ p e. absurd (omega (
         arith,
-        ap (owed_of p) cells-after,
-        owed-empties (span x.sizes) p,
-        scan-some (head_bytes (wrote x call)) y.cells p (read-scan (wrote x call) p e),
+        ap (owed_of p) cells_after,
+        owed_empties (span x.sizes) p,
+        scan_some (head_bytes (wrote x call)) y.cells p (read_scan (wrote x call) p e),
       )))
 
   -- It is accepted with nothing to read, and the write decides what it leaves.
@@ -150,7 +150,7 @@ module _ {limits : Limits} {q j : ℕ} {x : State} {store : List ℕ} (calls : L
       → (Runnable limits next next_store → Filling p i next → Meets8 limits next next_store calls)
       → Meets8 limits x store (call ∷ calls)
   arrived o p i e w rest =
-      meets-later ready call calls all_taken none-early (rw none_read) (λ r. rest r (rw (none_read, e) w))
+      meets-later ready call calls all_taken none_early (rw none_read) (λ r. rest r (rw (none_read, e) w))
 
   -- Not yet a block: nothing is written.
   more_bytes : suc j < x.sizes.b
@@ -158,12 +158,12 @@ module _ {limits : Limits} {q j : ℕ} {x : State} {store : List ℕ} (calls : L
       → Meets8 limits x store (call ∷ calls)
   more_bytes l =
       arrived none q (suc j) (rw no_move) (record {
-        cells_are = cells-after;
-        head-none = head-after;
+        cells_are = cells_after;
+        head_none = head_after;
         phase_is = rw no_move (omega (arith, v.phase_is));
         tail_is = tail_after;
         filled = v.filled;
-        to-come = v.to-come;
+        to_come = v.to_come;
       })
     where
       no_move : moves y ≡ false
@@ -175,47 +175,47 @@ module _ {limits : Limits} {q j : ℕ} {x : State} {store : List ℕ} (calls : L
       → Meets8 limits x store (call ∷ calls)
   last_byte l =
       arrived (some q) (suc q) 0 (rw move written) (record {
-        cells_are = cells-after;
-        head-none = head-after;
+        cells_are = cells_after;
+        head_none = head_after;
         phase_is = rw move;
         tail_is = rw (tail_after, ← l) (without-alike (suc j) q);
-        filled = at-queue (λ p. p < suc q → (ring_of (set x.rings q new) p).count ≡ 1) q
-            (λ k. rw here (omega (arith, v.to-come q (omega arith))))
-            (λ p t k. rw (ring-set-other x.rings q p new t) (v.filled p (omega (arith, k, eqb-false q p t))));
-        to-come = at-queue (λ p. suc q ≤ p → (ring_of (set x.rings q new) p).count ≡ 0) q
+        filled = at_queue_lem (λ p. p < suc q → (ring_of (set x.rings q new) p).count ≡ 1) q
+            (λ k. rw here (omega (arith, v.to_come q (omega arith))))
+            (λ p t k. rw (ring-set_other x.rings q p new t) (v.filled p (omega (arith, k, eqb-false q p t))));
+        to_come = at_queue_lem (λ p. suc q ≤ p → (ring_of (set x.rings q new) p).count ≡ 0) q
             (λ k. absurd (omega (arith, k)))
-            (λ p t k. rw (ring-set-other x.rings q p new t) (v.to-come p (omega (arith, k))));
+            (λ p t k. rw (ring-set_other x.rings q p new t) (v.to_come p (omega (arith, k))));
       })
     where
       new : Ring
       new = ring (ring_of x.rings q).first ((ring_of x.rings q).count + 1)
 
       here : ring_of (set x.rings q new) q ≡ new
-      here = ring-set-same x.rings q new (omega (arith, ready.kept.within.rings-long, below))
+      here = ring-set_same x.rings q new (omega (arith, ready.kept.within.rings_long, below))
 
       move : moves y ≡ true
       move = eq-eqb x.phase (x.sizes.b - 1) (omega (arith, l, v.phase_is))
 
       written : fullest x.sizes.b (tail_bytes y) x.sizes.Q ≡ some q
       written =
-          by-option (fullest x.sizes.b (tail_bytes y) x.sizes.Q)
+          by_option (fullest x.sizes.b (tail_bytes y) x.sizes.Q)
           (λ e. absurd (omega (
             arith,
             l,
-            rw (eqb_same q) at (tail-count q),
+            rw (eqb_same q) at (tail_count q),
             fullest-none x.sizes.b (tail_bytes y) x.sizes.Q e q below,
           )))
-          (λ p e. by-test (eqb q p)
+          (λ p e. by_test (eqb q p)
           (λ t. e ∙ ap (λ (i : ℕ). some i) (sym (eqb-true q p t)))
           (λ t. absurd (omega (
             arith,
-            ready.block-two,
-            rw t at (tail-count p),
+            ready.block_two,
+            rw t at (tail_count p),
             (fullest-some x.sizes.b (tail_bytes y) x.sizes.Q p e).has_block,
           ))))
 
 -- A block of arrivals for queue q, i of them to come, and then the calls that the filled queue is ready for.
-fill-block : (limits : Limits) (i j q : ℕ) (x : State) (store : List ℕ) (calls : List Call)
+fill_block : (limits : Limits) (i j q : ℕ) (x : State) (store : List ℕ) (calls : List Call)
     → Runnable limits x store
     → Filling q j x
     → q < x.sizes.Q
@@ -223,13 +223,13 @@ fill-block : (limits : Limits) (i j q : ℕ) (x : State) (store : List ℕ) (cal
     → ((z : State) (stored : List ℕ) → z.sizes ≡ x.sizes
     → Runnable limits z stored → Filling (suc q) 0 z → Meets8 limits z stored calls)
     → Meets8 limits x store (block_of_arrivals i q ++ calls)
-fill-block limits zero j q x store calls ready v below left rest =
+fill_block limits zero j q x store calls ready v below left rest =
     absurd (omega (arith, left, v.phase_is, ready.kept.phase_ok))
-fill-block limits (suc zero) j q x store calls ready v below left rest =
+fill_block limits (suc zero) j q x store calls ready v below left rest =
     last_byte calls ready below v (omega (arith, left)) (λ r w. rest _ _ refl r w)
-fill-block limits (suc (suc i)) j q x store calls ready v below left rest =
+fill_block limits (suc (suc i)) j q x store calls ready v below left rest =
     more_bytes (block_of_arrivals (suc i) q ++ calls) ready below v (omega (arith, left))
-    (λ r w. fill-block limits (suc i) (suc j) q _ _ calls r w below (omega (arith, left)) rest)
+    (λ r w. fill_block limits (suc i) (suc j) q _ _ calls r w below (omega (arith, left)) rest)
 
 -- A block for each queue in turn, from queue q with n to come, then the requests and the idle slots.
 abbrev rest_of : Sizes → List Call
@@ -244,11 +244,11 @@ fill limits zero q x store ready v queues =
     requests limits x.sizes.Q 0 (span x.sizes) {gone = λ p. 0} ready
     (record {
       tail_none = v.tail_is;
-      one_block = λ p l. omega (arith, ap (count_of p) v.head-none, ap (λ (n : ℕ). x.sizes.b * n) (one p l));
-      blocks-left = omega (
+      one_block = λ p l. omega (arith, ap (count_of p) v.head_none, ap (λ (n : ℕ). x.sizes.b * n) (one p l));
+      blocks_left = omega (
         arith,
         v.phase_is,
-        span-and-queues x.sizes ready.block-two,
+        span-and_queues x.sizes ready.block_two,
         ap (λ (n : ℕ). x.sizes.b * n) (sum_ones x.sizes.Q (blocks x) one),
       );
     })
@@ -259,7 +259,7 @@ fill limits zero q x store ready v queues =
     one p l = v.filled p (omega (arith, queues, l))
 fill limits (suc n) q x store ready v queues =
     rw (append_assoc (block_of_arrivals x.sizes.b q) (fill_from x.sizes.b (suc q) n) (rest_of x.sizes))
-    (fill-block limits x.sizes.b 0 q x store (fill_from x.sizes.b (suc q) n ++ rest_of x.sizes) ready v
+    (fill_block limits x.sizes.b 0 q x store (fill_from x.sizes.b (suc q) n ++ rest_of x.sizes) ready v
     (omega (arith, queues)) (omega arith)
     (λ z stored same r w.
     rw (← same) (fill limits n (suc q) z stored r w (omega (arith, queues, ap (λ (s : Sizes). s.Q) same)))))

@@ -21,17 +21,17 @@ module _ (limits : Limits) (s : Sizes) (store : List ℕ) (accepted : accepts li
   fresh-ready = record {
     kept = keeps-fresh (one_fewer limits) s accepted;
     store_long = long;
-    block-two = two;
+    block_two = two;
   }
 
   fresh-filling : Filling 0 0 (fresh (one_fewer limits) s)
   fresh-filling = record {
     cells_are = refl;
-    head-none = refl;
+    head_none = refl;
     phase_is = refl;
     tail_is = refl;
     filled = λ p l. absurd (omega (arith, l));
-    to-come = λ p l. rw (ring-fresh s.Q p, blocks);
+    to_come = λ p l. rw (ring-fresh s.Q p, blocks);
   }
 
 pub misses : (limits : Limits) (s : Sizes) (store : List ℕ) → accepts limits s ≡ true → 2 ≤ s.b

@@ -1,5 +1,5 @@
 -- "Bytes beyond, and bytes of blocks not being written, never change": of a slot and of a list of slots, since a slot
--- puts b bytes at the place of one block and changes no other. `store-elsewhere` and `list-elsewhere` say it.
+-- puts b bytes at the place of one block and changes no other. `store_elsewhere` and `list_elsewhere` say it.
 use mathlib.Core.Path.{◌≡◌, refl, ap, sym, ◌∙◌, subst}
 use mathlib.Core.List.{List, [], ◌∷◌}
 use mathlib.Core.Option.{Option, some, none}
@@ -11,12 +11,12 @@ use Rattle.model.specs.Sizes.{Sizes, Design, store_bytes, block_place}
 use Rattle.model.specs.State.{State, values_of, ring_of}
 use Rattle.model.specs.Slot.{Call, next_block, store_written, asked, halves_taken, Answer, slot}
 use Rattle.model.specs.Lists.{last_store}
-use Rattle.model.proofs.basics.Tests.{by-option}
-use Rattle.model.proofs.basics.Rings.{place-fits}
+use Rattle.model.proofs.basics.Tests.{by_option}
+use Rattle.model.proofs.basics.Rings.{place_fits}
 use Rattle.model.proofs.one_slot.Rules.{Rules}
 use Rattle.model.proofs.one_slot.MovesKeepRules.{WriteTaken}
-use Rattle.model.proofs.one_slot.Accepted.{RefusedOrAccepted, was-refused, was_accepted, outcome}
-use Rattle.model.proofs.one_slot.Kept.{placed-outside, write-taken, values-long, values-fit, rules-3}
+use Rattle.model.proofs.one_slot.Accepted.{RefusedOrAccepted, was_refused, was_accepted, outcome}
+use Rattle.model.proofs.one_slot.Kept.{placed-outside, write_taken, values-long, values-fit, rules-3}
 
 -- `not_written`: a slot that writes no block changes no byte. `outside`: one that does changes none outside the block.
 -- `beyond`: no slot changes a byte beyond Q × K × b.
@@ -35,7 +35,7 @@ module _ (n : ℕ) (y : State) (store : List ℕ) (o : Option ℕ) (f : WriteTak
   block_within : (q : ℕ) → o ≡ some q
       → block_place y.sizes q (next_block y q) + y.sizes.b ≤ store_bytes y.sizes
   block_within q e =
-      place-fits y.sizes.Q y.sizes.K y.sizes.b q (next_block y q) (f q e).0
+      place_fits y.sizes.Q y.sizes.K y.sizes.b q (next_block y q) (f q e).0
       (mod-lt ((ring_of y.rings q).first + (ring_of y.rings q).count) (omega (arith, v.firsts q (f q e).0)))
 
   written-outside : (q : ℕ) → o ≡ some q
@@ -50,22 +50,22 @@ module _ (n : ℕ) (y : State) (store : List ℕ) (o : Option ℕ) (f : WriteTak
 
   written-within : (i : ℕ) → store_bytes y.sizes ≤ i → get_or (store_written o y store) i 0 ≡ get_or store i 0
   written-within i l =
-      by-option o
+      by_option o
       (λ e. ap (λ (p : Option ℕ). get_or (store_written p y store) i 0) e)
       (λ q e. written-outside q e i (λ k. absurd (omega (arith, k.1, l, block_within q e))))
 
 module _ (design : Design) where
-  pub store-elsewhere : (x : State) (store : List ℕ) (call : Call) → 1 ≤ design.cell_count x.sizes
+  pub store_elsewhere : (x : State) (store : List ℕ) (call : Call) → 1 ≤ design.cell_count x.sizes
       → StoreElsewhere x store (slot design x store call)
-  store-elsewhere x store call cells-ok = go (slot design x store call) (outcome design x store call)
+  store_elsewhere x store call cells_ok = go (slot design x store call) (outcome design x store call)
     where
       go : (a : Answer) → RefusedOrAccepted design x store call a → StoreElsewhere x store a
-      go a (was-refused n e) =
+      go a (was_refused n e) =
           record { not_written = λ w. refl; outside = λ q w i out. refl; beyond = λ i l. refl }
       go a (was_accepted f) =
           let y = asked x (halves_taken x call) in
-          let taken = write-taken y in
-          let kept = rules-3 design x store (halves_taken x call) cells-ok f.judged in
+          let taken = write_taken y in
+          let kept = rules-3 design x store (halves_taken x call) cells_ok f.judged in
           record {
             not_written = λ w. ap (λ (o : Option ℕ). store_written o y store) w;
             outside = written-outside _ y store _ taken kept f.judged.store_long;
@@ -77,15 +77,15 @@ module _ (design : Design) where
   same-sizes x store call = go (slot design x store call) (outcome design x store call)
     where
       go : (a : Answer) → RefusedOrAccepted design x store call a → a.state.sizes ≡ x.sizes
-      go a (was-refused n e) = refl
+      go a (was_refused n e) = refl
       go a (was_accepted f) = refl
 
-  pub list-elsewhere : (s : Sizes) (x : State) (store : List ℕ) (calls : List Call) → x.sizes ≡ s
+  pub list_elsewhere : (s : Sizes) (x : State) (store : List ℕ) (calls : List Call) → x.sizes ≡ s
       → 1 ≤ design.cell_count s
       → (i : ℕ) → store_bytes s ≤ i → get_or (last_store design x store calls) i 0 ≡ get_or store i 0
-  list-elsewhere s x store [] e cells-ok i l = refl
-  list-elsewhere s x store (call ∷ calls) e cells-ok i l =
-      list-elsewhere s (slot design x store call).state (slot design x store call).store calls
-      (same-sizes x store call ∙ e) cells-ok i l
-      ∙ (store-elsewhere x store call (subst (λ (z : Sizes). 1 ≤ design.cell_count z) (sym e) cells-ok)).beyond i
+  list_elsewhere s x store [] e cells_ok i l = refl
+  list_elsewhere s x store (call ∷ calls) e cells_ok i l =
+      list_elsewhere s (slot design x store call).state (slot design x store call).store calls
+      (same-sizes x store call ∙ e) cells_ok i l
+      ∙ (store_elsewhere x store call (subst (λ (z : Sizes). 1 ≤ design.cell_count z) (sym e) cells_ok)).beyond i
       (subst (λ (z : Sizes). store_bytes z ≤ i) (sym e) l)

@@ -1,6 +1,6 @@
 -- A list of slots: in two parts, the second goes on from what the first left; it has a step for each call, and
--- accepts at most as many; from a state that keeps the rules all its states do. `run-append`, `last-append`,
--- `run_length`, `accepted-few` and `list-keeps` say it.
+-- accepts at most as many; from a state that keeps the rules all its states do. `run-append`, `last_append`,
+-- `run_length`, `accepted-few` and `list_keeps` say it.
 use mathlib.Core.Path.{◌≡◌, refl, ap}
 use mathlib.Core.List.{List, [], ◌∷◌, ◌++◌}
 use Prim.Native.Nat.{ℕ, suc, ◌≤◌}
@@ -12,24 +12,24 @@ use Rattle.model.specs.Sizes.{Design}
 use Rattle.model.specs.State.{State}
 use Rattle.model.specs.Slot.{Call, slot}
 use Rattle.model.specs.Lists.{Step, step_of, run, last_state, last_store, accepted}
-use Rattle.model.proofs.basics.Tests.{by-test}
+use Rattle.model.proofs.basics.Tests.{by_test}
 use Rattle.model.proofs.one_slot.Rules.{Keeps}
 use Rattle.model.proofs.one_slot.Kept.{slot_kept}
 
 -- In two parts.
-pub last-append : (design : Design) (x : State) (store : List ℕ) (calls more : List Call)
+pub last_append : (design : Design) (x : State) (store : List ℕ) (calls more : List Call)
     → last_state design x store (calls ++ more)
     ≡ last_state design (last_state design x store calls) (last_store design x store calls) more
-last-append design x store [] more = refl
-last-append design x store (call ∷ calls) more =
-    last-append design (slot design x store call).state (slot design x store call).store calls more
+last_append design x store [] more = refl
+last_append design x store (call ∷ calls) more =
+    last_append design (slot design x store call).state (slot design x store call).store calls more
 
-pub last-store-append : (design : Design) (x : State) (store : List ℕ) (calls more : List Call)
+pub last_store_append : (design : Design) (x : State) (store : List ℕ) (calls more : List Call)
     → last_store design x store (calls ++ more)
     ≡ last_store design (last_state design x store calls) (last_store design x store calls) more
-last-store-append design x store [] more = refl
-last-store-append design x store (call ∷ calls) more =
-    last-store-append design (slot design x store call).state (slot design x store call).store calls more
+last_store_append design x store [] more = refl
+last_store_append design x store (call ∷ calls) more =
+    last_store_append design (slot design x store call).state (slot design x store call).store calls more
 
 pub run-append : (design : Design) (x : State) (store : List ℕ) (calls more : List Call)
     → run design x store (calls ++ more)
@@ -48,18 +48,18 @@ run_length design x store (call ∷ calls) = ap suc (run_length design _ _ calls
 pub accepted-few : (steps : List Step) → length (accepted steps) ≤ length steps
 accepted-few [] = omega arith
 accepted-few (step ∷ steps) =
-    by-test (eqb step.reply.number 0)
+    by_test (eqb step.reply.number 0)
     (λ t. rw t (omega (arith, accepted-few steps)))
     (λ t. rw t (omega (arith, accepted-few steps)))
 
 -- The rules.
-pub list-keeps : (design : Design) (x : State) (store : List ℕ) (calls : List Call)
+pub list_keeps : (design : Design) (x : State) (store : List ℕ) (calls : List Call)
     → 1 ≤ design.cell_count x.sizes → Keeps design x
     → All (λ (step : Step). Keeps design step.state) (run design x store calls)
-list-keeps design x store [] h v = tt
-list-keeps design x store (call ∷ calls) h v =
+list_keeps design x store [] h v = tt
+list_keeps design x store (call ∷ calls) h v =
     let k = slot_kept design x store call h v in (
       k.kept,
-      list-keeps design (slot design x store call).state (slot design x store call).store calls
-          (rw k.same_sizes h) k.kept,
+      list_keeps design (slot design x store call).state (slot design x store call).store calls
+          (rw k.same-sizes h) k.kept,
     )

@@ -10,12 +10,12 @@ use lib.ListN.{length, set, length-set}
 use Rattle.model.specs.Sizes.{store_bytes}
 use Rattle.model.specs.State.{Byte, Ring, ring, State, count_of, tail_bytes, head_bytes, owed_cells, ring_of, blocks}
 use Rattle.model.specs.Slot.{without, after_write, refill_queue, bytes_for, block_at, after_read, after_phase}
-use Rattle.model.proofs.basics.Tests.{at-queue, eqb_same}
+use Rattle.model.proofs.basics.Tests.{at_queue_lem, eqb_same}
 use Rattle.model.proofs.basics.AllOf.{all_append}
-use Rattle.model.proofs.basics.Bytes.{below-for, below-without, count-without, count-refilled}
-use Rattle.model.proofs.basics.Cells.{owed-below}
-use Rattle.model.proofs.meaning.Scan.{scan-some}
-use Rattle.model.proofs.basics.Rings.{ring-set-same, ring-set-other, block-length, times-pred}
+use Rattle.model.proofs.basics.Bytes.{below_for, below_without, count_without, count_refilled}
+use Rattle.model.proofs.basics.Cells.{owed_below}
+use Rattle.model.proofs.meaning.Scan.{scan_some}
+use Rattle.model.proofs.basics.Rings.{ring-set_same, ring-set_other, block_length, times_pred}
 use Rattle.model.proofs.one_slot.Rules.{Rules}
 
 -- 4. The write: its queue is one of the Q, and has b tail bytes.
@@ -26,22 +26,22 @@ pub rules-wrote : (n : ℕ) (x : State) (written : Option ℕ) → WriteTaken x 
     → Rules n (after_write written x)
 rules-wrote n x none f v = v
 rules-wrote n x (some q) f v = record {
-  tail_below = below-without x.sizes.Q x.sizes.b q x.tail v.tail_below;
+  tail_below = below_without x.sizes.Q x.sizes.b q x.tail v.tail_below;
   head_below = v.head_below;
-  cells-below = v.cells-below;
+  cells_below = v.cells_below;
   cells_long = v.cells_long;
-  rings-long = omega (arith, v.rings-long, length-set x.rings q new);
-  firsts = at-queue (λ p. p < Q → (ring_of (set x.rings q new) p).first < x.sizes.K) q
+  rings_long = omega (arith, v.rings_long, length-set x.rings q new);
+  firsts = at_queue_lem (λ p. p < Q → (ring_of (set x.rings q new) p).first < x.sizes.K) q
       (λ l. rw here (v.firsts q l))
-      (λ p t l. rw (ring-set-other x.rings q p new t) (v.firsts p l));
-  room = at-queue (λ p. p < Q
+      (λ p t l. rw (ring-set_other x.rings q p new t) (v.firsts p l));
+  room = at_queue_lem (λ p. p < Q
       → count_of p (without b q x.tail) + b * (ring_of (set x.rings q new) p).count ≤ x.sizes.K * b) q
-      (λ l. rw here (omega (arith, v.room q l, (f q refl).1, rw (eqb_same q) at (count-without b q q x.tail))))
-      (λ p t l. rw (ring-set-other x.rings q p new t)
-      (omega (arith, v.room p l, rw t at (count-without b q p x.tail))));
-  backed = at-queue (λ p. p < Q → owed_cells x p ≤ head_bytes x p + b * (ring_of (set x.rings q new) p).count) q
+      (λ l. rw here (omega (arith, v.room q l, (f q refl).1, rw (eqb_same q) at (count_without b q q x.tail))))
+      (λ p t l. rw (ring-set_other x.rings q p new t)
+      (omega (arith, v.room p l, rw t at (count_without b q p x.tail))));
+  backed = at_queue_lem (λ p. p < Q → owed_cells x p ≤ head_bytes x p + b * (ring_of (set x.rings q new) p).count) q
       (λ l. rw here (omega (arith, v.backed q l)))
-      (λ p t l. rw (ring-set-other x.rings q p new t) (v.backed p l));
+      (λ p t l. rw (ring-set_other x.rings q p new t) (v.backed p l));
 }
   where
     Q : ℕ
@@ -54,21 +54,21 @@ rules-wrote n x (some q) f v = record {
     new = ring (ring_of x.rings q).first ((ring_of x.rings q).count + 1)
 
     here : ring_of (set x.rings q new) q ≡ new
-    here = ring-set-same x.rings q new (omega (arith, v.rings-long, (f q refl).0))
+    here = ring-set_same x.rings q new (omega (arith, v.rings_long, (f q refl).0))
 
 -- 4. The read: its queue is one of the Q, and has a block.
 abbrev pub ReadTaken : State → Option ℕ → Type 0
 ReadTaken x o = (q : ℕ) → o ≡ some q → (q < x.sizes.Q) × (1 ≤ blocks x q)
 
 -- The queue at which the scan stops is such a queue.
-pub scan-taken : (n : ℕ) (x : State) → Rules n x → ReadTaken x (refill_queue (head_bytes x) x.cells)
-scan-taken n x v q e = (below, go (blocks x q) refl)
+pub scan_taken : (n : ℕ) (x : State) → Rules n x → ReadTaken x (refill_queue (head_bytes x) x.cells)
+scan_taken n x v q e = (below, go (blocks x q) refl)
   where
     more : head_bytes x q < owed_cells x q
-    more = scan-some (head_bytes x) x.cells q e
+    more = scan_some (head_bytes x) x.cells q e
 
     below : q < x.sizes.Q
-    below = owed-below x.sizes.Q x.cells q v.cells-below (omega (arith, more))
+    below = owed_below x.sizes.Q x.cells q v.cells_below (omega (arith, more))
 
     go : (k : ℕ) → blocks x q ≡ k → 1 ≤ k
     go zero z = absurd (omega (arith, more, v.backed q below, ap (λ (k : ℕ). x.sizes.b * k) z))
@@ -80,17 +80,17 @@ module _ (n : ℕ) (x : State) (store : List ℕ) (long : store_bytes x.sizes �
   rules-read (some q) f = record {
     tail_below = v.tail_below;
     head_below = all_append (λ (y : Byte). y.queue < Q) x.head (bytes_for q block) v.head_below
-        (below-for Q q below block);
-    cells-below = v.cells-below;
+        (below_for Q q below block);
+    cells_below = v.cells_below;
     cells_long = v.cells_long;
-    rings-long = omega (arith, v.rings-long, length-set x.rings q new);
-    firsts = at-queue (λ p. p < Q → (ring_of (set x.rings q new) p).first < x.sizes.K) q
+    rings_long = omega (arith, v.rings_long, length-set x.rings q new);
+    firsts = at_queue_lem (λ p. p < Q → (ring_of (set x.rings q new) p).first < x.sizes.K) q
         (λ l. rw here (mod-lt (old.first + 1) (omega (arith, v.firsts q l))))
-        (λ p t l. rw (ring-set-other x.rings q p new t) (v.firsts p l));
-    room = at-queue (λ p. p < Q → tail_bytes x p + b * (ring_of (set x.rings q new) p).count ≤ x.sizes.K * b) q
+        (λ p t l. rw (ring-set_other x.rings q p new t) (v.firsts p l));
+    room = at_queue_lem (λ p. p < Q → tail_bytes x p + b * (ring_of (set x.rings q new) p).count ≤ x.sizes.K * b) q
         (λ l. rw here (omega (arith, v.room q l, less)))
-        (λ p t l. rw (ring-set-other x.rings q p new t) (v.room p l));
-    backed = at-queue (λ p. p < Q
+        (λ p t l. rw (ring-set_other x.rings q p new t) (v.room p l));
+    backed = at_queue_lem (λ p. p < Q
         → owed_cells x p ≤ count_of p (x.head ++ bytes_for q block) + b * (ring_of (set x.rings q new) p).count) q
         (λ l. rw here (omega (
           arith,
@@ -98,10 +98,10 @@ module _ (n : ℕ) (x : State) (store : List ℕ) (long : store_bytes x.sizes �
           less,
           whole,
           rw (eqb_same q) at
-              (count-refilled q q x.head block),
+              (count_refilled q q x.head block),
         )))
-        (λ p t l. rw (ring-set-other x.rings q p new t)
-        (omega (arith, v.backed p l, rw t at (count-refilled q p x.head block))));
+        (λ p t l. rw (ring-set_other x.rings q p new t)
+        (omega (arith, v.backed p l, rw t at (count_refilled q p x.head block))));
   }
     where
       Q : ℕ
@@ -120,16 +120,16 @@ module _ (n : ℕ) (x : State) (store : List ℕ) (long : store_bytes x.sizes �
       below = (f q refl).0
 
       here : ring_of (set x.rings q new) q ≡ new
-      here = ring-set-same x.rings q new (omega (arith, v.rings-long, below))
+      here = ring-set_same x.rings q new (omega (arith, v.rings_long, below))
 
       block : List ℕ
       block = block_at x.sizes store q old.first
 
       whole : length block ≡ b
-      whole = block-length x.sizes store q old.first below (v.firsts q below) long
+      whole = block_length x.sizes store q old.first below (v.firsts q below) long
 
       less : b * (old.count - 1) + b ≡ b * old.count
-      less = times-pred b old.count (f q refl).1
+      less = times_pred b old.count (f q refl).1
 
 -- 5. The phase is no part of them.
 pub rules-phase : (n : ℕ) (x : State) → Rules n x → Rules n (after_phase x)

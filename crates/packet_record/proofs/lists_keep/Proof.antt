@@ -35,7 +35,7 @@ loop-again : tie.Need-loop-preserved invariant-loop decreases-loop
 loop-again c =
     let a = c.before.before.before.before.args in
     let l = c.before.before.before.loop in
-    let keeps = c.before.list-keeps.ensures in (
+    let keeps = c.before.list_keeps.ensures in (
       omega arith,
       one_more (list_ok (record_in a.regs a.lengths.now a.listed.now)) l.q l.invariant.1
           (sym keeps ∙ c.if1.true),
@@ -46,7 +46,7 @@ returns c =
     let a = c.before.before.before.before.args in
     let l = c.before.before.before.loop in
     one_not (list_ok (record_in a.regs a.lengths.now a.listed.now)) l.q a.queues (omega arith)
-    (sym c.before.list-keeps.ensures ∙ c.if1.false)
+    (sym c.before.list_keeps.ensures ∙ c.if1.false)
 
 returns-2 : tie.Need-returns-2 invariant-loop decreases-loop
 returns-2 c =

@@ -12,13 +12,13 @@ use Rattle.packet_refusals.proofs.free_store.Tie as tie
 
 -- A queue below the last is below 64.
 below : (s : tie.Start) → s.args.q < queue_places
-below s = omega (arith, (in_limits s.args.regs s.requires.0).q-high, s.requires.3)
+below s = omega (arith, (in_limits s.args.regs s.requires.0).q_high, s.requires.3)
 
 -- K × b is a small number.
 all_small : (s : tie.Start) → s.args.regs.depth * s.args.regs.block ≤ 65025
 all_small s =
     let limits = in_limits s.args.regs s.requires.0 in
-    product_small s.args.regs.depth s.args.regs.block limits.k-high (omega (arith, limits.b-high))
+    product_small s.args.regs.depth s.args.regs.block limits.k_high (omega (arith, limits.b_high))
 
 mul-all : tie.Need-overflow-mul-all
 mul-all c = record { fits = omega (arith, all_small c.before) }
@@ -49,7 +49,7 @@ blocks-small : (c : tie.After-struct-known2)
 blocks-small c =
     let s = start c in
     product_small s.args.regs.block (get_or s.args.stored.now s.args.q 0)
-    (omega (arith, (in_limits s.args.regs s.pre.0).b-high))
+    (omega (arith, (in_limits s.args.regs s.pre.0).b_high))
     (omega (arith, c.before.shared-slice-known2.given s.args.q))
 
 mul-used-2 : tie.Need-overflow-mul-used-2

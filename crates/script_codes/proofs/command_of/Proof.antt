@@ -5,7 +5,7 @@ use Prim.Native.Nat.{◌≤◌}
 use native.Mathlib.Omega.{arith}
 use lib.ListN.{length}
 use borrow.Author.Rules.{rules}
-use Rattle.model.proofs.basics.Tests.{true-not-false}
+use Rattle.model.proofs.basics.Tests.{true_not_false}
 use Rattle.script_commands.specs.Commands.{Kind, sizes, idle, arrive, ask, both, idles, end, row, is_end}
 use Rattle.script_codes.proofs.Codes.{enough_at, command-at, end_left}
 use Rattle.script_codes.proofs.Codes.{sizes-read, arrive-read, ask_read, both_read, idles-read}
@@ -116,7 +116,7 @@ returns-7 c = end_left c.before.before.args.code c.before.before.args.operands.n
     other ask t e = c.match.rest.0.0.1 e
     other both t e = c.match.rest.0.1 e
     other idles t e = c.match.rest.1 e
-    other end t e = true-not-false true refl t
+    other end t e = true_not_false true refl t
 
 pub command-of-spec : {M : Type 1} → statement M
 command-of-spec =

@@ -8,7 +8,7 @@ use native.Mathlib.Omega.{arith}
 use types.Run.{OneOf}
 use denote.Enum.Declared.{tag_of}
 use borrow.Author.Rules.{rules}
-use Rattle.model.proofs.basics.Tests.{true-not-false}
+use Rattle.model.proofs.basics.Tests.{true_not_false}
 use Rattle.script_commands.specs.declared.Command as enum
 use Rattle.script_commands.specs.declared.Command.TheVariants.{Sizes, Idle, Arrive, Ask, Both, Idles, End}
 use Rattle.script_commands.specs.Commands.{is_sizes}
@@ -63,7 +63,7 @@ returns-2 c =
     let at_read = at-reading.before.before in
     let s = at_read.before.before in
     let reading = at-reading.reading.given in
-    absurd (true-not-false (is_sizes (command_in reading.0.0).kind)
+    absurd (true_not_false (is_sizes (command_in reading.0.0).kind)
     (first_is_sizes s.args.script.now _ _ (sym (ap reading_in (sym reading.1) ∙ at_read.read.ensures)))
     (other-not-sizes reading.0.0 c.match2.keys2))
 

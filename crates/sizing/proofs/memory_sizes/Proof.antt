@@ -2,7 +2,7 @@
 use mathlib.Core.Path.{sym, ◌∙◌}
 use native.Mathlib.Omega.{arith}
 use Rattle.model.specs.Sizes.{sizes, paper_limits}
-use Rattle.model.proofs.basics.Limits.{Within, within-limits, row_within, store-within}
+use Rattle.model.proofs.basics.Limits.{Within, within_limits, row_within, store_within}
 use Rattle.sizing.proofs.Laws.{has_sizes, no_sizes}
 use borrow.Author.Rules.{rules}
 use Rattle.sizing.proofs.memory_sizes.Statement.{statement}
@@ -16,7 +16,7 @@ fits : (c : tie.Then1)
     → let a = c.before.before.args in Within paper_limits (sizes a.queues a.block a.depth)
 fits c =
     let a = c.before.before.args in
-    within-limits paper_limits (sizes a.queues a.block a.depth)
+    within_limits paper_limits (sizes a.queues a.block a.depth)
     (sym c.before.accepted.ensures ∙ c.if1.true)
 
 sub-span : tie.Need-overflow-sub-span
@@ -41,7 +41,7 @@ mul-t10 : tie.Need-overflow-mul-t10
 mul-t10 c = record { fits = omega (arith, row_within paper_limits _ (fits c)) }
 
 mul-t11 : tie.Need-overflow-mul-t11
-mul-t11 c = record { fits = omega (arith, store-within paper_limits _ (fits c)) }
+mul-t11 c = record { fits = omega (arith, store_within paper_limits _ (fits c)) }
 
 returns : tie.Need-returns
 returns c =

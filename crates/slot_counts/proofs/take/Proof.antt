@@ -20,22 +20,22 @@ tally-requires-2 c κs =
     let p = c.before.before.before.requires in (p.head_in, omega (arith, p.head_in, p.head_long), p.head_known)
 
 sub-tally-owed : tie.Need-overflow-sub-tally-owed
-sub-tally-owed c = let s = start c.before.before in (in_limits s.args.regs s.pre.sizes-ok).b-low
+sub-tally-owed c = let s = start c.before.before in (in_limits s.args.regs s.pre.sizes-ok).b_low
 
 mul-tally-owed : tie.Need-overflow-mul-tally-owed
 mul-tally-owed c =
     let s = start (heads-counted c) in
-    omega (arith, (in_limits s.args.regs s.pre.sizes-ok).span-high)
+    omega (arith, (in_limits s.args.regs s.pre.sizes-ok).span_high)
 
 add-tally-owed : tie.Need-overflow-add-tally-owed
 add-tally-owed c =
     let s = start (heads-counted c) in
-    omega (arith, (in_limits s.args.regs s.pre.sizes-ok).span-high)
+    omega (arith, (in_limits s.args.regs s.pre.sizes-ok).span_high)
 
 tally-owed-requires : tie.Need-tally-owed-requires
 tally-owed-requires c κs =
     let s = start (heads-counted c) in
-    let span = (in_limits s.args.regs s.pre.sizes-ok).span-high in
+    let span = (in_limits s.args.regs s.pre.sizes-ok).span_high in
     (omega (arith, span), omega (arith, span, s.pre.cells_long), s.pre.cells_known)
 
 returns : tie.Need-returns

@@ -93,7 +93,7 @@ refilled-requires c κs =
       left.ensures.long,
       spent-most start.args.heads.now left.last.0 (cell_of start.args.cell) head_places left.ensures
           start.pre.5,
-      (in_limits start.args.regs start.pre.0).b-high,
+      (in_limits start.args.regs start.pre.0).b_high,
       start.pre.12,
     )
 

@@ -72,17 +72,17 @@ ask-requires c κs =
 sub-shift : tie.Need-overflow-sub-shift
 sub-shift c =
     let s = start (delivered (arrived c.before.before)) in
-    (steps.limits s.args.regs (memory s) s.pre.0 s.pre.1).b-low
+    (steps.limits s.args.regs (memory s) s.pre.0 s.pre.1).b_low
 
 mul-shift : tie.Need-overflow-mul-shift
 mul-shift c =
     let s = start (delivered (arrived c.before.before.before)) in
-    omega (arith, (steps.limits s.args.regs (memory s) s.pre.0 s.pre.1).span-high)
+    omega (arith, (steps.limits s.args.regs (memory s) s.pre.0 s.pre.1).span_high)
 
 add-shift : tie.Need-overflow-add-shift
 add-shift c =
     let s = start (delivered (arrived c.before.before.before)) in
-    omega (arith, (steps.limits s.args.regs (memory s) s.pre.0 s.pre.1).span-high)
+    omega (arith, (steps.limits s.args.regs (memory s) s.pre.0 s.pre.1).span_high)
 
 shift-requires : tie.Need-shift-requires
 shift-requires c κs =
@@ -200,7 +200,7 @@ returns c =
     let head-is = steps.head_2 s.args.regs (memory s) s.pre.0 d early s1 s2 s3 s4 late s5 s6 s7 in
     record {
       state_is = steps.state-after s.args.regs (memory s) s.pre.0 d early s1 s2 s3 s4 late s5 s6 s7
-          c.before.before.next-phase.ensures
+          c.before.before.next_phase.ensures
           c.before.larger.ensures
           c.larger2.ensures
           (steps.joined_length s.args.regs (memory s) s.pre.0 d early s1 s2)

@@ -44,7 +44,7 @@ abbrev call_at : tie.Start → Call
 call_at c = call_in c.args.arrival c.args.request
 
 cells_fit : (c : tie.Start) → lookahead (sizes_in c.args.regs) ≤ length c.args.cells.now
-cells_fit c = omega (arith, (in_limits c.args.regs c.requires.0).span-high, c.requires.7)
+cells_fit c = omega (arith, (in_limits c.args.regs c.requires.0).span_high, c.requires.7)
 
 cell-is : (c : tie.Start) → oldest_cell (cellsAt c) ≡ cell_of (get_or c.args.cells.now 0 0)
 cell-is c = oldest_is (lookahead (sizes_in c.args.regs)) c.args.cells.now (omega arith) (cells_fit c)
@@ -87,7 +87,7 @@ to-read-requires c κs =
       s.pre.7,
       s.pre.8,
       has-byte,
-      λ q e t. omega (arith, known q e t, (in_limits a.regs s.pre.0).q-high),
+      λ q e t. omega (arith, known q e t, (in_limits a.regs s.pre.0).q_high),
     )
 
 head-full-requires : tie.Need-head-full-requires
@@ -113,7 +113,7 @@ to-write-requires c κs =
     let judged = early-judged found in
     let s = start judged in
     let a = s.args in
-    let few = (in_limits a.regs s.pre.0).q-high in
+    let few = (in_limits a.regs s.pre.0).q_high in
     let arrives =
     arrival-known a.regs a.tails.now a.heads.now a.owing.now a.stored.now (cellsAt s) (call_at s)
     (cell-is s) judged.before.is-owed.ensures judged.judge-early.result judged.judge-early.ensures

@@ -32,7 +32,7 @@ returns c =
     let sizes = sizes_in a.regs in
     c.refill-at.ensures
     ∙ no_move_no_read a.regs.phase sizes (counts_in a.heads.now) (cells_in (lookahead sizes) a.cells.now)
-    a.owes (request_in a.request) test.if1.true (in_limits a.regs s.requires.0).b-low
+    a.owes (request_in a.request) test.if1.true (in_limits a.regs s.requires.0).b_low
 
 -- The way back through the code: from behind the scan to behind what is spent, to the test of the phase, and to the
 -- start.
@@ -50,7 +50,7 @@ element-copy-out-spend c = search rules
 
 -- The cells of accepted sizes lie within the array.
 cells_fit : (c : tie.Start) → lookahead (sizes_in c.args.regs) ≤ length c.args.cells.now
-cells_fit c = omega (arith, (in_limits c.args.regs c.requires.0).span-high, c.requires.3)
+cells_fit c = omega (arith, (in_limits c.args.regs c.requires.0).span_high, c.requires.3)
 
 spend-requires : tie.Need-spend-requires
 spend-requires c κs =
@@ -66,12 +66,12 @@ sub-scan c = search rules
 mul-scan : tie.Need-overflow-mul-scan
 mul-scan c =
     let s = start (tested (spent c).before) in
-    omega (arith, (in_limits s.args.regs s.pre.0).span-high)
+    omega (arith, (in_limits s.args.regs s.pre.0).span_high)
 
 add-scan : tie.Need-overflow-add-scan
 add-scan c =
     let s = start (tested (spent c).before) in
-    omega (arith, (in_limits s.args.regs s.pre.0).span-high)
+    omega (arith, (in_limits s.args.regs s.pre.0).span_high)
 
 scan-requires : tie.Need-scan-requires
 scan-requires c κs =

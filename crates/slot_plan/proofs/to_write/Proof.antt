@@ -35,7 +35,7 @@ returns c =
     let regs = s.args.regs in
     sym (not_yet regs.phase (sizes_in regs)
     (tails_asked s.args.owes (asked-call s) (counts_in s.args.tails.now))
-    (in_limits regs s.requires.0).b-low c.if1.true)
+    (in_limits regs s.requires.0).b_low c.if1.true)
 
 arrived-requires : tie.Need-arrived-requires
 arrived-requires c κs =
@@ -58,7 +58,7 @@ fullest-of-requires c κs =
     let counted = c.before.before in
     let s = start (arrived counted) in
     let f = in_limits s.args.regs s.pre.0 in
-    (f.q-high, counted.taken.ensures.long, f.b-low)
+    (f.q_high, counted.taken.ensures.long, f.b_low)
 
 returns-2 : tie.Need-returns-2
 returns-2 c =
@@ -67,7 +67,7 @@ returns-2 c =
     let s = start joined in
     let regs = s.args.regs in
     c.fullest-of.ensures
-    ∙ sym (at_last_phase regs.phase (sizes_in regs) _ (in_limits regs s.pre.0).b-low
+    ∙ sym (at_last_phase regs.phase (sizes_in regs) _ (in_limits regs s.pre.0).b_low
     joined.before.before.before.if1.left)
     ∙ ap (λ (f : ℕ → ℕ). write_now regs.phase (sizes_in regs) f)
     (tails_asked_lem (asked-call s) s.args.owes s.args.tails.now joined.arrived.ensures

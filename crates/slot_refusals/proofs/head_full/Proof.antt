@@ -16,32 +16,32 @@ enum-known-read c = search rules
 sub-size : tie.Need-overflow-sub-size
 sub-size c =
     let start = c.before.before.before.before in
-    (in_limits start.args.regs start.requires.0).b-low
+    (in_limits start.args.regs start.requires.0).b_low
 
 mul-size : tie.Need-overflow-mul-size
 mul-size c =
     let start = c.before.before.before.before.before in
-    omega (arith, (in_limits start.args.regs start.requires.0).span-high)
+    omega (arith, (in_limits start.args.regs start.requires.0).span_high)
 
 mul-size-2 : tie.Need-overflow-mul-size-2
 mul-size-2 c =
     let start = c.before.before.before.before.before in
-    omega (arith, (in_limits start.args.regs start.requires.0).span-high)
+    omega (arith, (in_limits start.args.regs start.requires.0).span_high)
 
 add-size : tie.Need-overflow-add-size
 add-size c =
     let start = c.before.before.before.before.before in
-    omega (arith, (in_limits start.args.regs start.requires.0).span-high)
+    omega (arith, (in_limits start.args.regs start.requires.0).span_high)
 
 add-result : tie.Need-overflow-add-result
 add-result c =
     let start = c.before.before.before.before.before.before in
-    omega (arith, (in_limits start.args.regs start.requires.0).span-high)
+    omega (arith, (in_limits start.args.regs start.requires.0).span_high)
 
 add-result-2 : tie.Need-overflow-add-result-2
 add-result-2 c =
     let start = c.before.before.before.before.before.before.before in
-    omega (arith, (in_limits start.args.regs start.requires.0).b-high, start.requires.1)
+    omega (arith, (in_limits start.args.regs start.requires.0).b_high, start.requires.1)
 
 returns : tie.Need-returns
 returns c =
@@ -55,7 +55,7 @@ returns c =
 add-result-3 : tie.Need-overflow-add-result-3
 add-result-3 c =
     let start = c.before.before.before.before.before.before.before in
-    omega (arith, (in_limits start.args.regs start.requires.0).b-high, start.requires.1)
+    omega (arith, (in_limits start.args.regs start.requires.0).b_high, start.requires.1)
 
 returns-2 : tie.Need-returns-2
 returns-2 c = search rules

@@ -12,7 +12,7 @@ use Rattle.slot_refusals.proofs.is_full.Tie as tie
 
 -- A queue below the last is below 64.
 below : (s : tie.Start) → s.args.q < queue_places
-below s = omega (arith, (in_limits s.args.regs s.requires.0).q-high, s.requires.3)
+below s = omega (arith, (in_limits s.args.regs s.requires.0).q_high, s.requires.3)
 
 mul-result : tie.Need-overflow-mul-result
 mul-result c = record { fits = omega (arith, below c) }
@@ -39,7 +39,7 @@ blocks-small : (c : tie.After-struct-known)
 blocks-small c =
     let s = start c in
     product_small s.args.regs.block (get_or s.args.stored.now s.args.q 0)
-    (omega (arith, (in_limits s.args.regs s.pre.0).b-high))
+    (omega (arith, (in_limits s.args.regs s.pre.0).b_high))
     (omega (arith, c.before.shared-slice-known2.given s.args.q))
 
 mul-result-2 : tie.Need-overflow-mul-result-2
@@ -54,7 +54,7 @@ mul-result-3 c =
     let limits = in_limits s.args.regs s.pre.0 in
     omega (
       arith,
-      product_small s.args.regs.depth s.args.regs.block limits.k-high (omega (arith, limits.b-high)),
+      product_small s.args.regs.depth s.args.regs.block limits.k_high (omega (arith, limits.b_high)),
     )
 
 returns : tie.Need-returns

@@ -48,7 +48,7 @@ returns c =
 below : (c : tie.Else1) → queue c < queue_places
 below c =
     let s = start (requested c) in
-    omega (arith, (in_limits s.args.regs s.pre.0).q-high, c.if1.false)
+    omega (arith, (in_limits s.args.regs s.pre.0).q_high, c.if1.false)
 
 mul-result : tie.Need-overflow-mul-result
 mul-result c = search rules
@@ -82,7 +82,7 @@ blocks-small c =
     let s = start (requested (tested c)) in
     let q = queue (tested c) in
     product_small s.args.regs.block (get_or s.args.stored.now q 0)
-    (omega (arith, (in_limits s.args.regs s.pre.0).b-high))
+    (omega (arith, (in_limits s.args.regs s.pre.0).b_high))
     (omega (arith, c.before.shared-slice-known3.given q))
 
 mul-result-3 : tie.Need-overflow-mul-result-3

@@ -57,7 +57,7 @@ makes-room-requires : tie.Need-makes-room-requires
 makes-room-requires c κs =
     let at-known = known c.before in
     let s = start (arrived at-known) in
-    (s.pre.1, omega (arith, (in_limits s.args.regs s.pre.0).q-high, at-known.if1.left))
+    (s.pre.1, omega (arith, (in_limits s.args.regs s.pre.0).q_high, at-known.if1.left))
 
 returns-2 : tie.Need-returns-2
 returns-2 c =

@@ -81,7 +81,7 @@ element-copy-out-if4 : tie.Need-element-copy-out-if4
 element-copy-out-if4 c =
     let at-queue = known (not-owed c.before) in
     let s = start (requested at-queue) in
-    omega (arith, (in_limits s.args.regs s.pre.0).q-high, at-queue.if1.left)
+    omega (arith, (in_limits s.args.regs s.pre.0).q_high, at-queue.if1.left)
 
 returns-4 : tie.Need-returns-4
 unfolding counts_in

@@ -30,18 +30,18 @@ not-swapped c = c.before
 sub-size : tie.Need-overflow-sub-size
 sub-size c =
     let s = start c.before.before in
-    (in_limits s.args.regs s.pre).b-low
+    (in_limits s.args.regs s.pre).b_low
 
 mul-size : tie.Need-overflow-mul-size
 mul-size c =
     let s = start c.before.before.before in
-    omega (arith, (in_limits s.args.regs s.pre).span-high)
+    omega (arith, (in_limits s.args.regs s.pre).span_high)
 
 add-size : tie.Need-overflow-add-size
 add-size c =
     let s = start (arrived c) in
     let limits = in_limits s.args.regs s.pre in
-    omega (arith, limits.span-high, limits.b-high)
+    omega (arith, limits.span_high, limits.b_high)
 
 returns : tie.Need-returns
 returns c =
@@ -62,7 +62,7 @@ returns-2 c =
     let a = s.args in
     rw y.1
     (tail_takes_swapping (sizes_in a.regs) a.regs.tail_fill a.swapping (byte y.0.0 y.0.1.0)
-    (in_limits a.regs s.pre).b-low at-swap.if1.taken c.if2.false)
+    (in_limits a.regs s.pre).b_low at-swap.if1.taken c.if2.false)
 
 returns-3 : tie.Need-returns-3
 returns-3 c =

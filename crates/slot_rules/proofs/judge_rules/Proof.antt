@@ -11,7 +11,7 @@ use Rattle.layout.specs.declared.Regs.{Regs}
 use Rattle.layout.specs.Counts.{by_queue, Tallies}
 use Rattle.layout.specs.Views.{Arrays, arrays, state_in}
 use Rattle.layout.proofs.Ranges.{InLimits, in_limits}
-use Rattle.slot_rules.proofs.Numbers.{Fit, fit_facts, tail_within, head_within, cells_within_lem}
+use Rattle.slot_rules.proofs.Numbers.{Fit, fit_facts, tail_within, head_within, cells_within}
 use Rattle.slot_rules.proofs.Judging.{bytes-wider, cells_wider, numbers-fail, tail_fails, head_fails, cells_fail}
 use Rattle.slot_rules.proofs.Judging.{queues_decide, rules-broken}
 use Rattle.slot_rules.proofs.judge_rules.Statement.{statement}
@@ -71,13 +71,13 @@ regs-keep-requires : tie.Need-regs-keep-requires
 regs-keep-requires c κs = search rules
 
 sub-l : tie.Need-overflow-sub-l
-sub-l c = (limits c.before).b-low
+sub-l c = (limits c.before).b_low
 
 mul-l : tie.Need-overflow-mul-l
-mul-l c = record { fits = omega (arith, (limits c.before.before).span-high) }
+mul-l c = record { fits = omega (arith, (limits c.before.before).span_high) }
 
 add-l : tie.Need-overflow-add-l
-add-l c = record { fits = omega (arith, (limits c.before.before).span-high) }
+add-l c = record { fits = omega (arith, (limits c.before.before).span_high) }
 
 all-below-requires : tie.Need-all-below-requires
 all-below-requires c κs =
@@ -92,7 +92,7 @@ all-below-requires-2 c κs =
 all-below-requires-3 : tie.Need-all-below-requires-3
 all-below-requires-3 c κs =
     let here = head-to-numbers c.before in
-    omega (arith, cells_within_lem (regs_of (start_of here)) (fit here), (start_of here).pre.cells_long)
+    omega (arith, cells_within (regs_of (start_of here)) (fit here), (start_of here).pre.cells_long)
 
 tally-requires : tie.Need-tally-requires
 tally-requires c κs =
@@ -102,7 +102,7 @@ tally-requires c κs =
     let within = tail_within regs (fit here) in (
       omega (arith, within),
       omega (arith, within, (start_of here).pre.tail_long),
-      bytes-wider regs.queues queue_places (limits here).q-high (state_of (start_of here)).tail (tail-below tail),
+      bytes-wider regs.queues queue_places (limits here).q_high (state_of (start_of here)).tail (tail-below tail),
     )
 
 tally-requires-2 : tie.Need-tally-requires-2
@@ -113,7 +113,7 @@ tally-requires-2 c κs =
     let within = head_within regs (fit here) in (
       omega (arith, within),
       omega (arith, within, (start_of here).pre.head_long),
-      bytes-wider regs.queues queue_places (limits here).q-high (state_of (start_of here)).head (head-below head),
+      bytes-wider regs.queues queue_places (limits here).q_high (state_of (start_of here)).head (head-below head),
     )
 
 tally-owed-requires : tie.Need-tally-owed-requires
@@ -121,10 +121,10 @@ tally-owed-requires c κs =
     let cells = c.before.before.before.before.before in
     let here = cells-to-numbers cells in
     let regs = regs_of (start_of here) in
-    let within = cells_within_lem regs (fit here) in (
+    let within = cells_within regs (fit here) in (
       within,
       omega (arith, within, (start_of here).pre.cells_long),
-      cells_wider regs.queues queue_places (limits here).q-high (state_of (start_of here)).cells (cells-below cells),
+      cells_wider regs.queues queue_places (limits here).q_high (state_of (start_of here)).cells (cells-below cells),
     )
 
 -- The way back from the last count to the tests.

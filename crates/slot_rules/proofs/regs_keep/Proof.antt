@@ -4,7 +4,7 @@ use mathlib.Core.Bool.{true}
 use native.Mathlib.Omega.{arith}
 use borrow.Author.Rules.{rules}
 use Rattle.model.specs.Sizes.{paper_limits, accepts}
-use Rattle.model.proofs.basics.Tests.{true-not-false}
+use Rattle.model.proofs.basics.Tests.{true_not_false}
 use Rattle.layout.specs.Views.{sizes_in}
 use Rattle.layout.specs.declared.Regs.{Regs}
 use Rattle.layout.proofs.Ranges.{InLimits, in_limits}
@@ -41,7 +41,7 @@ limits : (c : tie.Then1) → InLimits (smallOf c)
 limits c = in_limits (smallOf c) (sizes-ok c)
 
 sub-span : tie.Need-overflow-sub-span
-sub-span c = (limits c.before).b-low
+sub-span c = (limits c.before).b_low
 
 mul-span : tie.Need-overflow-mul-span
 mul-span c = record { fits = omega (arith, limits c.before.before) }
@@ -87,7 +87,7 @@ returns-6 c =
 returns-7 : tie.Need-returns-7
 returns-7 c =
     fit_not c.before.before.args.regs
-    (λ f. true-not-false _ f.sizes-ok (sym c.before.accepted.ensures ∙ c.if1.false))
+    (λ f. true_not_false _ f.sizes-ok (sym c.before.accepted.ensures ∙ c.if1.false))
 
 pub regs-keep-spec : {M : Type 1} → statement M
 regs-keep-spec =

@@ -59,7 +59,7 @@ add-firsts : tie.Need-overflow-add-firsts
 add-firsts c = omega (arith, (known c.before.before.before).first_small)
 
 rem-firsts : tie.Need-nonzero-rem-firsts
-rem-firsts c = (known c.before.before.before).first_block.limits.k-low
+rem-firsts c = (known c.before.before.before).first_block.limits.k_low
 
 cast-firsts : tie.Need-overflow-cast-firsts
 cast-firsts c = omega (arith, (known c.before.before.before).next_small)

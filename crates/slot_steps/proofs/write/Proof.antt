@@ -67,7 +67,7 @@ add-write-out c =
     omega (arith, w.first_small, w.count_small)
 
 rem-write-out : tie.Need-nonzero-rem-write-out
-rem-write-out c = (known (at_call c)).next_block.limits.k-low
+rem-write-out c = (known (at_call c)).next_block.limits.k_low
 
 add-write-out-2 : tie.Need-overflow-add-write-out-2
 add-write-out-2 c = omega (arith, number_small (known (at_call c)).next_block)

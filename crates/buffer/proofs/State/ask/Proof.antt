@@ -15,17 +15,17 @@ ask-requires c κs =
     )
 
 sub-youngest : tie.Need-overflow-sub-youngest
-sub-youngest c = let start = c.before.before in (limits start.args.t1 start.requires.fits).b-low
+sub-youngest c = let start = c.before.before in (limits start.args.t1 start.requires.fits).b_low
 
 mul-youngest : tie.Need-overflow-mul-youngest
-mul-youngest c = let start = c.before.before in omega (arith, (limits start.args.t1 start.requires.fits).span-high)
+mul-youngest c = let start = c.before.before in omega (arith, (limits start.args.t1 start.requires.fits).span_high)
 
 mul-self : tie.Need-overflow-mul-self
-mul-self c = let start = c.before.before in omega (arith, (limits start.args.t1 start.requires.fits).span-high)
+mul-self c = let start = c.before.before in omega (arith, (limits start.args.t1 start.requires.fits).span_high)
 
 element-write-self : tie.Need-element-write-self
 element-write-self c =
-    let start = c.before.before in omega (arith, (limits start.args.t1 start.requires.fits).span-high)
+    let start = c.before.before in omega (arith, (limits start.args.t1 start.requires.fits).span_high)
 
 returns : tie.Need-returns
 returns c =

@@ -1,7 +1,7 @@
 -- `State::deliver` meets its contract: the first number is the oldest cell, and the one that comes in is 0.
 use native.Mathlib.Omega.{arith}
 use borrow.Author.Rules.{rules}
-use Rattle.buffer.proofs.OneStep.{limits, head_in, cells_within_lem, byte-to_deliver, delivered, delivered_state}
+use Rattle.buffer.proofs.OneStep.{limits, head_in, cells_inside, byte-to_deliver, delivered, delivered_state}
 use Rattle.buffer.proofs.State.deliver.Statement.{statement}
 use Rattle.buffer.proofs.State.deliver.Tie as tie
 
@@ -17,18 +17,18 @@ deliver-requires c κs =
     )
 
 sub-l : tie.Need-overflow-sub-l
-sub-l c = let start = c.before.before.before in (limits start.args.t1 start.requires.fits).b-low
+sub-l c = let start = c.before.before.before in (limits start.args.t1 start.requires.fits).b_low
 
 mul-l : tie.Need-overflow-mul-l
-mul-l c = let start = c.before.before.before in omega (arith, (limits start.args.t1 start.requires.fits).span-high)
+mul-l c = let start = c.before.before.before in omega (arith, (limits start.args.t1 start.requires.fits).span_high)
 
 add-l : tie.Need-overflow-add-l
-add-l c = let start = c.before.before.before in omega (arith, (limits start.args.t1 start.requires.fits).span-high)
+add-l c = let start = c.before.before.before in omega (arith, (limits start.args.t1 start.requires.fits).span_high)
 
 shift-cells-requires : tie.Need-shift-cells-requires
 shift-cells-requires c κs =
     let start = c.before.before.before.before in
-    (omega arith, omega (arith, cells_within_lem start.args.t1 start.requires.fits (search rules)))
+    (omega arith, omega (arith, cells_inside start.args.t1 start.requires.fits (search rules)))
 
 returns : tie.Need-returns
 returns c =

@@ -126,19 +126,19 @@ sub-shift-cells : tie.Need-overflow-sub-shift-cells
 sub-shift-cells c =
     let on = to-shift c in
     let s = start (planned on) in
-    (steps.limits (state s).regs (arrays_of (state s)) (arrays-long s) (decision on)).b-low
+    (steps.limits (state s).regs (arrays_of (state s)) (arrays-long s) (decision on)).b_low
 
 mul-shift-cells : tie.Need-overflow-mul-shift-cells
 mul-shift-cells c =
     let on = to-shift c.before in
     let s = start (planned on) in
-    omega (arith, (steps.limits (state s).regs (arrays_of (state s)) (arrays-long s) (decision on)).span-high)
+    omega (arith, (steps.limits (state s).regs (arrays_of (state s)) (arrays-long s) (decision on)).span_high)
 
 add-shift-cells : tie.Need-overflow-add-shift-cells
 add-shift-cells c =
     let on = to-shift c.before in
     let s = start (planned on) in
-    omega (arith, (steps.limits (state s).regs (arrays_of (state s)) (arrays-long s) (decision on)).span-high)
+    omega (arith, (steps.limits (state s).regs (arrays_of (state s)) (arrays-long s) (decision on)).span_high)
 
 shift-cells-requires : tie.Need-shift-cells-requires
 shift-cells-requires c κs =
@@ -280,7 +280,7 @@ returns-2 c =
     (reply_is _ _ refl refl refl (steps.delivered regs m long d early s1 s2) d.written_is d.read_is
     (plan.ensures.slots_left_is on.if1.left))
     (steps.state-after regs m long d early s1 s2 s3 s4 late s5 s6 s7
-    phase.next-phase.ensures
+    phase.next_phase.ensures
     tail-mark.larger.ensures
     head-mark.larger2.ensures
     (steps.joined_length regs m long d early s1 s2)

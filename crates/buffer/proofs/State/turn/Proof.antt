@@ -8,7 +8,7 @@ next-phase-requires : tie.Need-next-phase-requires
 next-phase-requires c κs = search rules
 
 returns : tie.Need-returns
-returns c = turned c.before.before.args.self _ c.before.next-phase.ensures
+returns c = turned c.before.before.args.self _ c.before.next_phase.ensures
 
 pub turn_spec : {M : Type 1} → statement M
 turn_spec = tie.close (tie.spec next-phase-requires returns)

@@ -4,16 +4,16 @@ use Prim.Native.Nat.{ℕ, ◌+◌, ◌-◌, ◌*◌, ◌/◌, ◌≤◌}
 use native.Mathlib.Omega.{arith}
 use lib.Dec.{leb}
 use borrow.Author.Tests.{leb-true, leb-false, lt-leb, le-leb}
-use Rattle.model.proofs.basics.Tests.{by-test}
+use Rattle.model.proofs.basics.Tests.{by_test}
 use Rattle.captures.proofs.writing.fits.Statement.{statement}
 use Rattle.captures.proofs.writing.fits.Tie as tie
 
 -- Two tests that hold together are the same.
 tests_agree : (a b c d : ℕ) → (a ≤ b → c ≤ d) → (c ≤ d → a ≤ b) → leb a b ≡ leb c d
 tests_agree a b c d there back =
-    by-test (leb a b)
+    by_test (leb a b)
     (λ t. t ∙ sym (le-leb c d (there (leb-true a b t))))
-    (λ t. t ∙ sym (by-test (leb c d)
+    (λ t. t ∙ sym (by_test (leb c d)
     (λ u. absurd (omega (arith, leb-false a b t, back (leb-true c d u))))
     (λ u. u)))
 

@@ -1,7 +1,7 @@
 -- `gel_open` meets its contract: 0 at every place, but for the sizes and the last one asked, is a fresh state.
 use mathlib.Core.Path.{refl, sym, ◌∙◌}
 use Rattle.model.specs.Sizes.{sizes, paper_limits}
-use Rattle.model.proofs.basics.Limits.{within-limits}
+use Rattle.model.proofs.basics.Limits.{within_limits}
 use Rattle.gelwynnar.proofs.Opened.{opened, not_opened}
 use Rattle.gelwynnar.proofs.slots.gel_open.Statement.{statement}
 use Rattle.gelwynnar.proofs.slots.gel_open.Tie as tie
@@ -13,7 +13,7 @@ sub-last-asked : tie.Need-overflow-sub-last-asked
 sub-last-asked c =
     let a = c.before.before.args in
     let ok = sym c.before.accepted.ensures ∙ c.if1.true in
-    (within-limits paper_limits (sizes a.queues a.block a.depth) ok).q_low
+    (within_limits paper_limits (sizes a.queues a.block a.depth) ok).q_low
 
 returns : tie.Need-returns
 returns c =

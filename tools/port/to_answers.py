@@ -13,6 +13,12 @@ import os
 import re
 import sys
 
+# Names behind a module's alias, which respell.py leaves in such a file: old and new, from a file of its table.
+RESPELLED = {}
+if os.environ.get("RESPELLED"):
+    with open(os.environ["RESPELLED"], encoding="utf-8") as table_file:
+        RESPELLED = dict(line.split() for line in table_file)
+
 WORD = r"[^\s(){};,@«»\"`.]+"
 
 
@@ -58,9 +64,12 @@ class Function:
         self.names = names
         self.needs = [(norm(a), b) for a, b in names["needs"]]
         self.places = {}
+        self.callees = {}
         self.steps = {}
         for place, parent, step, callee, more in names["places"]:
             self.places.setdefault(norm(place), place)
+            if step[0] and callee:
+                self.callees[step[1]] = callee
             if step[0] and step[0] != step[1]:
                 self.steps.setdefault(norm(step[0]), step[1])
             elif step[0]:
@@ -104,6 +113,16 @@ class Function:
 
         heads = "|".join(map(re.escape, sorted(alias, key=len, reverse=True)))
         text = re.sub(r"(?<![\w.'-])(%s)\.(%s)" % (heads, WORD), step, text)
+        bound = {v: s for v, s in re.findall(r"let (%s) = (?:%s)\.(%s) in" % (WORD, heads, WORD), text)}
+
+        def last(m):
+            step = m[2] or bound.get(m[1])
+            params = self.names["params"].get(self.callees.get(step, ""), [])
+            k = m[3].count("1")
+            return f"{m[1]}{'.' + m[2] if m[2] else ''}.new.{params[k]}" if k < len(params) else m[0]
+
+        text = re.sub(r"(?<![\w.'-])(%s)(?:\.(%s))?\.new((?:\.1)*)\.0" % (WORD, WORD), last, text)
+        text = re.sub(r"\.(args|new)\.([\w-]+)", lambda m: f".{m[1]}.{m[2].replace('-', '_')}", text)
         text = text.replace(".taken", ".true").replace(".left)", ".false)").replace(".left,", ".false,")
         return text
 
@@ -111,7 +130,7 @@ class Function:
 def signature(lines):
     """The name, its type, the `unfolding` line, the arguments and the body."""
     text = "\n".join(lines)
-    m = re.match(r"(abbrev )?(pub )?(\S+) :(.*?)\n(unfolding [^\n]*\n)?\3((?: [^\s=]+)*?) =[ \n](.*)$", text, re.S)
+    m = re.match(r"(abbrev )?(pub )?(\S+) :(.*?)\n(unfolding [^\n]*\n)?\3((?:\s+[^\s=]+)*?) =[ \n](.*)$", text, re.S)
     if not m:
         return None
     return m
@@ -128,9 +147,13 @@ def turn(crate_name, folder, function, names):
         if ".Statement." in use or use.endswith(" as tie"):
             continue
         kept.append(use)
-    invariants, answers, helpers, imports = [], [], [], []
+    invariants, answers, helpers, imports, ways = [], [], [], [], []
     for d in decls:
         m = signature(d["lines"])
+        way = re.match(r"abbrev (\S+) : tie\.[^\n]* → tie\.[^\n]*\n\1 (\w+) = \2(?:\.before)*\s*$", "\n".join(d["lines"]))
+        if way:
+            ways.append(way[1])
+            continue
         if m and m[4].strip().startswith("{M : Type 1}"):
             continue
         if m and re.match(r"\s*tie\.(invariant|decreases)-", m[4]):
@@ -168,17 +191,44 @@ def turn(crate_name, folder, function, names):
             answers.append("\n".join([*d["comment"], f"pub {new} : goal.{new}", *([m[5].strip()] if m[5] else []), f"{new} c =" + ("\n" if "\n" in body else " ") + own]))
             continue
         text = "\n".join(d["lines"])
-        at = re.search(r"\(c : tie\.(\S+?)[\s)]", text)
-        if at and norm(at[1]) in it.new_place:
+        at = re.search(r"\(\w+ : tie\.(\S+?)[\s)]", text)
+        bare = re.match(r"(?:abbrev )?(?:pub )?\S+ : tie\.(\S+) →", text)
+        if bare and norm(bare[1]) in it.new_place:
+            place = it.new_place[norm(bare[1])]
+            name = re.match(r"(?:abbrev )?(?:pub )?(\S+)", text)[1]
+            imports.append(place)
+            text = it.body(text.replace(f"tie.{bare[1]} →", f"{place} →"))
+            helpers.append((name, place))
+        elif at and norm(at[1]) in it.new_place:
             place = it.new_place[norm(at[1])]
             name = re.match(r"(?:abbrev )?(?:pub )?(\S+)", text)[1]
             imports.append(place)
-            text = re.sub(r"\(c : tie\.[^)]*\)", f"(c : {place})", text)
+            text = re.sub(r"\((\w+) : tie\.[^)]*\)", rf"(\1 : {place})", text)
             text = it.body(text)
             helpers.append((name, place))
         else:
             text = it.body(text)
         answers.append("\n".join([*d["comment"], text]))
+    aliases = [u.rsplit(" as ", 1)[1] for u in kept if " as " in u and "{" not in u]
+
+    def finish(text):
+        for name in ways:
+            while True:
+                new = re.sub(r"\((?<![\w-])" + re.escape(name) + r" (\w+|\((?:[^()]|\([^()]*\))*\))\)", r"\1", text)
+                new = re.sub(r"(?<![\w.'-])" + re.escape(name) + r" (\w+|\((?:[^()]|\([^()]*\))*\))", r"\1", new)
+                if new == text:
+                    break
+                text = new
+        text = re.sub(r"\(goal\.at\.\S+ c\)\.[\w'-]+(?=\.(?:args|requires)\b)", "c", text)
+        text = re.sub(r"\.pre(?![\w-])", ".requires", text)
+        text = re.sub(r"\.inv(?![\w-])", ".invariant", text)
+        text = re.sub(r"\.args\.t1(?![\w-])", ".args.self", text)
+        text = re.sub(r"\.new\.t1(?![\w-])", ".new.self", text)
+        for alias in aliases:
+            text = re.sub(r"(?<![\w.'-])" + re.escape(alias) + r"\.([\w'-]+)", lambda m: f"{alias}.{RESPELLED.get(m[1], m[1])}", text)
+        return text
+
+    answers = [finish(a) for a in answers]
     title = "\n".join(head)
     base = f"Rattle.{crate_name}.proofs.{dotted}"
     if invariants:

@@ -16,7 +16,7 @@ pub data Chain (design : Design) : State → List ℕ → List Step → State �
       → Promised design x store call a
       → Chain design a.state a.store steps last
       → Chain design x store (step_of x store call a ∷ steps) last
-  arbiter_slot_lem : {x : State} {store : List ℕ} {a : Answer} {steps : List Step} {last : State} (arrival : Option Byte)
+  arbiters_slot : {x : State} {store : List ℕ} {a : Answer} {steps : List Step} {last : State} (arrival : Option Byte)
       → a ≡ arbiter_slot design x store arrival
       → Chain design a.state a.store steps last
       → Chain design x store (step_of x store (arbiter_call x arrival) a ∷ steps) last

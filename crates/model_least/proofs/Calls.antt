@@ -28,8 +28,8 @@ module _ (limits : Limits) (s : Sizes) (x : State) (store : List ℕ) (ready : R
   pub queues_are : x.sizes.Q ≡ s.Q
   queues_are = ap (λ (z : Sizes). z.Q) ready.sizes-are
 
-  pub block_is_lem : x.sizes.b ≡ s.b
-  block_is_lem = ap (λ (z : Sizes). z.b) ready.sizes-are
+  pub block_is : x.sizes.b ≡ s.b
+  block_is = ap (λ (z : Sizes). z.b) ready.sizes-are
 
   calm_there : (there : ℕ → Figures) → Calm s.b there → Calm x.sizes.b there
   calm_there there c = subst (λ (z : Sizes). Calm z.b there) (sym ready.sizes-are) c
@@ -84,16 +84,16 @@ module _ (limits : Limits) (s : Sizes) (q j : ℕ) (there : ℕ → Figures) (x 
     pub idle-on : suc j < s.b → After limits s q here there (suc j) x store idle
     idle-on l =
         on limits s x store idle v.ready (idle-allowed x) q there here idled j v.phase_is
-        (omega (arith, l, block_is_lem limits s x store v.ready))
+        (omega (arith, l, block_is limits s x store v.ready))
 
     module _ (last : suc j ≡ s.b) (calm : Calm s.b there) where
       pub idle-moves_nothing : here.tail < s.b → here.asked ≤ here.margin
           → After limits s q here there 0 x store idle
       idle-moves_nothing light l =
           moves-nothing limits s x store idle v.ready (idle-allowed x) q there
-          (omega (arith, last, v.phase_is, block_is_lem limits s x store v.ready))
+          (omega (arith, last, v.phase_is, block_is limits s x store v.ready))
           (calm_there limits s x store v.ready there calm) here idled
-          (omega (arith, light, block_is_lem limits s x store v.ready)) l
+          (omega (arith, light, block_is limits s x store v.ready)) l
 
   module _ (k m : ℕ) (below : q < s.Q) (calm : Calm s.b there) where
     -- The last slot of a round, from what the queues show after its step 3.
@@ -103,10 +103,10 @@ module _ (limits : Limits) (s : Sizes) (q j : ℕ) (there : ℕ → Figures) (x 
     read_last call a v allowed w last =
         subst (λ (z : Sizes). After limits s q (figures 0 k (z.b - 1) 0) there 0 x store call) v.ready.sizes-are
         (reads limits s x store call v.ready allowed q there
-        (omega (arith, last, v.phase_is, block_is_lem limits s x store v.ready))
+        (omega (arith, last, v.phase_is, block_is limits s x store v.ready))
         (calm_there limits s x store v.ready there calm) 0 k m
         (omega (arith, below, queues_are limits s x store v.ready))
-        (omega (arith, last, block_is_lem limits s x store v.ready)) w)
+        (omega (arith, last, block_is limits s x store v.ready)) w)
 
     pub idle-reads : Stage limits s q (figures 0 (suc k) m (suc m)) there j x store → suc j ≡ s.b
         → After limits s q (figures 0 k (s.b - 1) 0) there 0 x store idle
@@ -130,7 +130,7 @@ module _ (limits : Limits) (s : Sizes) (q j : ℕ) (there : ℕ → Figures) (x 
     pub request-on : suc j < s.b → After limits s q (figures 0 (suc k) m (suc a)) there (suc j) x store (request q)
     request-on l =
         on limits s x store (request q) v.ready request-taken q there _ requested j v.phase_is
-        (omega (arith, l, block_is_lem limits s x store v.ready))
+        (omega (arith, l, block_is limits s x store v.ready))
 
     pub request-reads : Calm s.b there → a ≡ m → suc j ≡ s.b
         → After limits s q (figures 0 k (s.b - 1) 0) there 0 x store (request q)
@@ -148,7 +148,7 @@ module _ (limits : Limits) (s : Sizes) (q j : ℕ) (there : ℕ → Figures) (x 
           v.stands.at_here.tail_is,
           v.phase_is,
           v.ready.good.kept.phase_ok,
-          block_is_lem limits s x store v.ready,
+          block_is limits s x store v.ready,
           mul-le-mul_right {m = 1} s.b some_block,
         ))
       where
@@ -163,14 +163,14 @@ module _ (limits : Limits) (s : Sizes) (q j : ℕ) (there : ℕ → Figures) (x 
     pub arrival-on : suc j < s.b → After limits s q (figures (suc j) 0 m 0) there (suc j) x store (arrival q 0)
     arrival-on l =
         on limits s x store (arrival q 0) v.ready arrival-taken q there _ arrived j v.phase_is
-        (omega (arith, l, block_is_lem limits s x store v.ready))
+        (omega (arith, l, block_is limits s x store v.ready))
 
     pub arrival-writes : Calm s.b there → suc j ≡ s.b
         → After limits s q (figures 0 1 m 0) there 0 x store (arrival q 0)
     arrival-writes calm last =
         writes limits s x store (arrival q 0) v.ready arrival-taken q there
-        (omega (arith, last, v.phase_is, block_is_lem limits s x store v.ready))
+        (omega (arith, last, v.phase_is, block_is limits s x store v.ready))
         (calm_there limits s x store v.ready there calm) 0 m
         (omega (arith, below, queues_are limits s x store v.ready))
         (subst (λ (n : ℕ). Stands q (figures n 0 m 0) there (asked x (arrival q 0)))
-        (let e : suc j ≡ x.sizes.b = omega (arith, last, block_is_lem limits s x store v.ready) in e) arrived)
+        (let e : suc j ≡ x.sizes.b = omega (arith, last, block_is limits s x store v.ready) in e) arrived)

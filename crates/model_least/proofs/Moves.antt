@@ -12,7 +12,7 @@ use borrow.Author.Tests.{eqb-true}
 use Rattle.model.specs.Sizes.{store_bytes}
 use Rattle.model.specs.State.{Ring, ring, State, tail_bytes, head_bytes, owed_cells, ring_of, blocks}
 use Rattle.model.specs.Slot.{moves, fullest, queue_to_write, after_write, refill_queue, queue_to_read, block_at, after_read}
-use Rattle.model.specs.Slot.{after_phase, asked}
+use Rattle.model.specs.Slot.{after_phase}
 use Rattle.model.proofs.basics.Tests.{by_test, by_option, eqb_same}
 use Rattle.model.proofs.basics.Bytes.{count_without, count_refilled}
 use Rattle.model.proofs.meaning.Fullest.{fullest-some, fullest-none}

@@ -77,7 +77,7 @@ module _ (limits : Limits) (s : Sizes) (one : s.K ≡ 1) (few : s.Q < s.b) where
         ap (λ (z : Sizes). z.Q * (z.K * z.b)) same,
         joined-bounded limits x store call kept,
       )))
-      (never _ _ calls (slot_kept (full limits) x store call (omega arith) kept).kept
+      (never (slot (full limits) x store call).state (slot (full limits) x store call).store calls (slot_kept (full limits) x store call (omega arith) kept).kept
       ((slot_kept (full limits) x store call (omega arith) kept).same-sizes ∙ same))
 
 pub tail_never_fills : (limits : Limits) (s : Sizes) (store : List ℕ) (calls : List Call) → accepts limits s ≡ true

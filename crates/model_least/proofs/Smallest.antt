@@ -7,8 +7,8 @@ use Rattle.model_least.proofs.NeverFull.{tail_never_fills}
 
 pub least : (limits : Limits) → Least limits
 least limits = record {
-  head_fills_lem = head_fills_lem limits;
-  tail_fills_lem = tail_fills_lem limits;
+  head_is_filled = head_fills_lem limits;
+  tail_is_filled = tail_fills_lem limits;
   tail_fills_by_queues = tail_fills_by_queues limits;
   tail_never_fills = tail_never_fills limits;
 }

@@ -23,7 +23,7 @@ use Rattle.model_least.specs.Least.{short_from, last_queue, last_from, tail_fill
 use Rattle.model_least.proofs.Slots.{Reaches, Ready, state_after, store_after, Allowed, ready_after, reaches_now}
 use Rattle.model_least.proofs.Slots.{reaches_later}
 use Rattle.model_least.proofs.Figures.{Figures, figures, Shows}
-use Rattle.model_least.proofs.Calls.{queues_are, block_is_lem, arrival-allowed}
+use Rattle.model_least.proofs.Calls.{queues_are, block_is, arrival-allowed}
 use Rattle.model_least.proofs.Rounds.{Onward, short-round}
 use Rattle.model_least.proofs.Turns.{in_turn, Turn, turn_begins, turn_ends, turn_calm, all_done, turns_over}
 use Rattle.model_least.proofs.Turns.{untouched, turns_fresh, sum-add}
@@ -89,7 +89,7 @@ module _ (limits : Limits) (s : Sizes) (block : 1 ≤ s.b) (ring : 1 ≤ s.K)
         no_move : moves x ≡ false
         no_move =
             ne_eqb x.phase (x.sizes.b - 1)
-            (λ e. omega (arith, e, k, v.phase_is, block_is_lem limits s x store v.ready))
+            (λ e. omega (arith, e, k, v.phase_is, block_is limits s x store v.ready))
 
         tail_after : (state_after x store call).tail ≡ x.tail ++ (byte (last_queue s i) 0 ∷ [])
         tail_after = rw no_move (append-nil _)

@@ -65,12 +65,12 @@ TailFills limits s store = some_of (tail_fills s) (list_of (full limits) s store
 -- where there are as many queues as a block has bytes. Else, with K = 1 and Q < b, no list fills it: its queues have
 -- at most K × b tail bytes each, Q × b in all, and Q(b - 1) + b is more.
 pub record Least (limits : Limits) : Type 0 where
-  pub head_fills_lem :
+  pub head_is_filled :
       (s : Sizes) (store : List ℕ)
       → accepts limits s ≡ true
       → store_bytes s ≤ length store
       → HeadFills limits s store
-  pub tail_fills_lem :
+  pub tail_is_filled :
       (s : Sizes) (store : List ℕ)
       → accepts limits s ≡ true
       → store_bytes s ≤ length store

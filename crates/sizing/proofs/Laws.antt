@@ -1,6 +1,6 @@
 -- Sizes are accepted exactly within the paper's limits, and the sizing rule gives a block exactly within its own.
 use mathlib.Core.Path.{◌≡◌, refl}
-use mathlib.Core.Bool.{Bool, true, false, and_true}
+use mathlib.Core.Bool.{Bool, true, false, and-true}
 use mathlib.Core.List.{List, [], ◌∷◌}
 use Prim.Native.Nat.{ℕ, ◌+◌, ◌-◌, ◌*◌, ◌/◌, ◌≤◌}
 use native.Mathlib.Omega.{arith}
@@ -25,7 +25,7 @@ pub accepts-span : (q b k : ℕ) → 1 ≤ q → q ≤ 64 → 1 ≤ b → b ≤ 
     → accepts paper_limits (sizes q b k) ≡ leb (q * (b - 1)) 2016
 accepts-span q b k ql qh bl bh kl kh =
     rw (between-holds 1 q 64 ql qh, between-holds 1 b 128 bl bh, between-holds 1 k 255 kl kh)
-    (and_true (leb (q * (b - 1)) 2016))
+    (and-true (leb (q * (b - 1)) 2016))
 
 -- The limits of the sizing rule.
 pub record Sizable (rate grade : ℕ) : Type 0 where
@@ -49,14 +49,14 @@ sizable_facts rate grade e = record {
 }
 
 pub no_block : (rate grade : ℕ) → (Sizable rate grade → ⊥) → SizingSays rate grade NoBlock
-no_block rate grade h = record { number_is = rw out; block_is_lem = rw out }
+no_block rate grade h = record { number_is = rw out; block_is = rw out }
   where
     out : sizable rate grade ≡ false
     out = by_test (sizable rate grade) (λ t. absurd (h (sizable_facts rate grade t))) (λ t. t)
 
 pub a_block : (rate grade b : ℕ) → 1 ≤ rate → rate ≤ 100 → grade ≤ 15 → b ≤ 128 → b ≡ block_for rate grade
     → SizingSays rate grade (Block b)
-a_block rate grade b low high last regs e = record { number_is = rw yes_is; block_is_lem = rw (yes_is, e) }
+a_block rate grade b low high last regs e = record { number_is = rw yes_is; block_is = rw (yes_is, e) }
   where
     yes_is : sizable rate grade ≡ true
     yes_is =

@@ -21,7 +21,7 @@ block_in NoBlock = none
 
 pub record SizingSays (rate grade : ℕ) (r : Sizing) : Type 0 where
   pub number_is : sizing_number_in r ≡ sizing_number rate grade
-  pub block_is_lem : block_in r ≡ sized_block rate grade
+  pub block_is : block_in r ≡ sized_block rate grade
 
 -- The memories that sizes need.
 abbrev pub memory_of : Sizes → Memory

@@ -20,7 +20,7 @@ use Rattle.model.specs.Slot.{Call, arriving, is_full, swaps, arrival_taken, halv
 use Rattle.model.specs.Lists.{Step, step_of, accepted, deliveries}
 use Rattle.model.specs.Arbiter.{unrequested, counted_arrival, can_be_asked, queue_after, choice}
 use Rattle.model.specs.Arbiter.{arbiter_call, last_after, noting, arbiter_slot}
-use Rattle.model.specs.Chains.{Chain, no_slot, arbiter_slot_lem}
+use Rattle.model.specs.Chains.{Chain, no_slot, arbiters_slot}
 use Rattle.model.specs.Ideal.{Ideal, waiting_with, ring_bytes, stands_for, stream, ideal_slot, IsIdealSlot}
 use Rattle.model.specs.Fairness.{arbiter_run, arbiter_state, arbiter_store, Front, ServedSoon, Fair}
 use Rattle.model.proofs.basics.Tests.{by_test, some_inj}
@@ -92,14 +92,18 @@ module _ (design : Design) (x : State) (store : List ℕ) (arrival : Option Byte
 pub arbiter_chain : (design : Design) (x : State) (store : List ℕ) (arrivals : List (Option Byte))
     → Chain design x store (arbiter_run design x store arrivals) (arbiter_state design x store arrivals)
 arbiter_chain design x store [] = no_slot
-arbiter_chain design x store (arrival ∷ arrivals) = arbiter_slot_lem arrival refl (arbiter_chain design _ _ arrivals)
+arbiter_chain design x store (arrival ∷ arrivals) =
+    arbiters_slot arrival refl
+    (arbiter_chain design (arbiter_slot design x store arrival).state (arbiter_slot design x store arrival).store
+    arrivals)
 
 module _ (design : Design) where
   arbiter_kept : (x : State) (store : List ℕ) (arrival : Option Byte) → 1 ≤ design.cell_count x.sizes
       → Keeps design x → Keeps design (arbiter_slot design x store arrival).state
   arbiter_kept x store arrival h v =
       let k = slot_kept design x store (arbiter_call x arrival) h v in
-      keeps-noted design (slot design x store (arbiter_call x arrival)).state _
+      keeps-noted design (slot design x store (arbiter_call x arrival)).state
+      (last_after (slot design x store (arbiter_call x arrival)).reply.number (choice x arrival) x.last_asked)
       (rw k.same-sizes
       (noted-below x arrival (slot design x store (arbiter_call x arrival)).reply.number v.last_below))
       k.kept
@@ -161,7 +165,8 @@ module _ (design : Design) where
       → Keeps design x → Keeps design (arbiter_state design x store arrivals)
   later_keeps x store [] h v = v
   later_keeps x store (arrival ∷ arrivals) h v =
-      later_keeps _ _ arrivals (rw (same-sizes x store arrival h v) h) (arbiter_kept x store arrival h v)
+      later_keeps (arbiter_slot design x store arrival).state (arbiter_slot design x store arrival).store arrivals
+      (rw (same-sizes x store arrival h v) h) (arbiter_kept x store arrival h v)
 
   later_goes_on : (x : State) (store : List ℕ) (arrivals more : List (Option Byte))
       → arbiter_run design x store (arrivals ++ more)
@@ -170,7 +175,8 @@ module _ (design : Design) where
   later_goes_on x store [] more = refl
   later_goes_on x store (arrival ∷ arrivals) more =
       ap (λ (steps : List Step). step_of x store (arbiter_call x arrival) (arbiter_slot design x store arrival) ∷ steps)
-      (later_goes_on _ _ arrivals more)
+      (later_goes_on (arbiter_slot design x store arrival).state (arbiter_slot design x store arrival).store arrivals
+      more)
 
 -- Place t of what is given is place t + L of what is delivered.
 given-leaves : (design : Design) (x : State) (store : List ℕ) (slots : List Step) (t : ℕ) (o : Option Byte)

@@ -3,7 +3,7 @@
 -- statement that says less is refused here.
 use mathlib.Core.Path.{◌≡◌, sym, ◌∙◌}
 use mathlib.Core.List.{List, ◌∷◌}
-use mathlib.Core.Option.{Option, some}
+use mathlib.Core.Option.{some}
 use Prim.Native.Nat.{ℕ, ◌+◌, ◌-◌, ◌*◌, ◌<◌, ◌≤◌}
 use native.Mathlib.Omega.{arith}
 use lib.ListN.{length}
@@ -19,10 +19,10 @@ module _ (s : Sizes) (store : List ℕ) (step : Step) (steps : List Step) (meets
       none_not_some y (sym (meets.refused.0.delivers_nothing (λ z. omega (arith, z, e))) ∙ d)
 
   refused-writes : (n q : ℕ) → step.reply.number ≡ n + 1 → step.reply.written ≡ some q → ⊥
-  refused-writes n q e d = none_not_some q (sym (meets.refused.0.Writes-nothing (λ z. omega (arith, z, e))) ∙ d)
+  refused-writes n q e d = none_not_some q (sym (meets.refused.0.writes_nothing (λ z. omega (arith, z, e))) ∙ d)
 
   refused-reads : (n q : ℕ) → step.reply.number ≡ n + 1 → step.reply.read ≡ some q → ⊥
-  refused-reads n q e d = none_not_some q (sym (meets.refused.0.Reads-nothing (λ z. omega (arith, z, e))) ∙ d)
+  refused-reads n q e d = none_not_some q (sym (meets.refused.0.reads_nothing (λ z. omega (arith, z, e))) ∙ d)
 
   tail_over_as_joined : s.Q * (s.b - 1) + s.b < step.joined_fill → ⊥
   tail_over_as_joined h = omega (arith, h, meets.caches.0.tail_joined)

@@ -12,7 +12,7 @@ use Rattle.model.specs.State.{Byte, State}
 use Rattle.model.specs.Slot.{Call, Answer, slot}
 use Rattle.model.specs.Lists.{Step, step_of, run, last_state, last_store}
 use Rattle.model.specs.Arbiter.{can_be_asked, queue_after, choice, arbiter_call, last_after, noting}
-use Rattle.model.specs.Chains.{Chain, no_slot, own_slot, arbiter_slot_lem}
+use Rattle.model.specs.Chains.{Chain, no_slot, own_slot, arbiters_slot}
 use Rattle.model.proofs.basics.Rounds.{next_below, first_below}
 use Rattle.model.proofs.one_slot.Rules.{Keeps, keeps-noted}
 use Rattle.model.proofs.one_slot.Kept.{slot_kept}
@@ -62,7 +62,7 @@ links design (own_slot {x = x} {store = store} {a = a} {steps = steps} {last = l
     linked e l =
         subst (λ (b : Answer). Links design x store (step_of x store call b ∷ steps) last) (sym e)
         (link call x.last_asked (λ k. k) (subst (λ (b : Answer). Links design b.state b.store steps last) e l))
-links design (arbiter_slot_lem {x = x} {store = store} {a = a} {steps = steps} {last = last} arrival p c) =
+links design (arbiters_slot {x = x} {store = store} {a = a} {steps = steps} {last = last} arrival p c) =
     linked (links design c)
   where
     call : Call
@@ -79,12 +79,14 @@ pub run-then : (design : Design) (x : State) (store : List ℕ) (calls : List Ca
     → Chain design (last_state design x store calls) (last_store design x store calls) steps last
     → Chain design x store (run design x store calls ++ steps) last
 run-then design x store [] c = c
-run-then design x store (call ∷ calls) c = own_slot call refl (run-then design _ _ calls c)
+run-then design x store (call ∷ calls) c = own_slot call refl
+    (run-then design (slot design x store call).state (slot design x store call).store calls c)
 
 pub run-chain : (design : Design) (x : State) (store : List ℕ) (calls : List Call)
     → Chain design x store (run design x store calls) (last_state design x store calls)
 run-chain design x store [] = no_slot
-run-chain design x store (call ∷ calls) = own_slot call refl (run-chain design _ _ calls)
+run-chain design x store (call ∷ calls) = own_slot call refl
+    (run-chain design (slot design x store call).state (slot design x store call).store calls)
 
 -- From a state that keeps the rules, what a chain leaves keeps them.
 pub chain_keeps : (design : Design) {x : State} {store : List ℕ} {steps : List Step} {last : State}

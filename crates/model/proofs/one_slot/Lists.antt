@@ -43,7 +43,8 @@ run-append design x store (call ∷ calls) more =
 pub run_length : (design : Design) (x : State) (store : List ℕ) (calls : List Call)
     → length (run design x store calls) ≡ length calls
 run_length design x store [] = refl
-run_length design x store (call ∷ calls) = ap suc (run_length design _ _ calls)
+run_length design x store (call ∷ calls) =
+    ap suc (run_length design (slot design x store call).state (slot design x store call).store calls)
 
 pub accepted-few : (steps : List Step) → length (accepted steps) ≤ length steps
 accepted-few [] = omega arith

@@ -67,5 +67,5 @@ example_reads = record {
   found-is = λ t h c f s. refl;
   left_is = λ t h c f s. refl;
   counts_found = λ t h o. refl;
-  counts_left_lem = λ t h o. refl;
+  counts_are_left = λ t h o. refl;
 }

@@ -147,5 +147,5 @@ pub record ExampleReads : Type 0 where
       }
   pub counts_found : (t h o : Lent)
       → counts_found t h o ≡ record { tails = t.entry.now; heads = h.entry.now; owing = o.entry.now }
-  pub counts_left_lem : (t h o : Lent)
+  pub counts_are_left : (t h o : Lent)
       → counts_left t h o ≡ record { tails = t.exit.now; heads = h.exit.now; owing = o.exit.now }

@@ -1,13 +1,14 @@
--- What is lent to a function, as its contract names it, each array once: `given` in a `requires`; in an `ensures`
--- `found` and `left`, as the function found the arrays and as it left them. The same for the three arrays of counts.
+-- What is lent to a function that may change it, as its contract names it, each array once: `given` in a `requires`; in
+-- an `ensures` `found` and `left`, as the function found the arrays and as it left them. The same for the three arrays
+-- of counts.
 use Rattle.std.specs.Prelude.{List, ℕ}
-use Rattle.std.specs.Borrow.{Bor}
+use Rattle.std.specs.Borrow.{MutBor}
 use denote.Triple.Both.{Both}
 use Rattle.layout.specs.Counts.{ByQueue, by_queue}
 use Rattle.layout.specs.Views.{Arrays, arrays}
 
 abbrev pub Array : Type 0
-Array = Bor (List ℕ)
+Array = MutBor (List ℕ)
 
 abbrev pub Lent : Type 0
 Lent = Both Array Array

@@ -9,35 +9,35 @@ ghost use Rattle.layout.specs.Example.{ExampleReads};
 ghost use Rattle.layout.specs.Views.{regs_in};
 
 // The byte that arrives, as queue and value, or none.
-#[derive(Drop)]
+#[derive(Clone, Copy)]
 pub enum Arrival {
     Comes(u8, u8),
     NoArrival,
 }
 
 // The queue that a byte is requested of, or none.
-#[derive(Drop)]
+#[derive(Clone, Copy)]
 pub enum Request {
     Asks(u8),
     NoRequest,
 }
 
 // The byte that a slot delivers, as queue and value, or none.
-#[derive(Drop)]
+#[derive(Clone, Copy)]
 pub enum Delivery {
     Gives(u8, u8),
     NoDelivery,
 }
 
 // A queue that is written or read, or none.
-#[derive(Drop)]
+#[derive(Clone, Copy)]
 pub enum Chosen {
     Queue(u8),
     Nothing,
 }
 
 // The block that is to be read: its queue or none, and in how many slots the cell leaves that it is for, else 0.
-#[derive(Drop)]
+#[derive(Clone, Copy)]
 pub struct Refill {
     pub queue: Chosen,
     pub slots_left: u16,
@@ -63,7 +63,7 @@ pub fn refill_at(queue: Chosen, place: usize) -> Refill
 
 // What a slot tells: the paper's number or 0, the number of each half that was dropped, 5 and 7, or 0, the
 // delivery, the queues written and read, and at a read in how many slots the cell leaves that it was for, else 0.
-#[derive(Drop)]
+#[derive(Clone, Copy)]
 pub struct Reply {
     pub number: u8,
     pub arrival_number: u8,
@@ -120,7 +120,7 @@ pub type CountArray = [u16; QUEUE_PLACES];
 
 // Sizes, phase, fills, high marks and the last one asked: all of a state but its arrays. `block` is bytes to a block,
 // `depth` blocks to a queue's ring, `last_asked` the queue that the round robin arbiter asked last.
-#[derive(Drop)]
+#[derive(Clone, Copy)]
 pub struct Regs {
     pub queues: usize,
     pub block: usize,

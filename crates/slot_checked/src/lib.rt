@@ -6,8 +6,8 @@ ghost use Rattle.std.specs.Prelude.{◌≡◌, true};
 ghost use Rattle.model.specs.Sizes.{paper_limits, accepts, paper};
 ghost use Rattle.model.specs.State.{keeps};
 ghost use Rattle.layout.specs.Calls.{call_in};
-ghost use Rattle.layout.specs.Lent.{given, found, counts_found, counts_left};
-ghost use Rattle.layout.specs.Views.{Long, sizes_in, state_in};
+ghost use Rattle.layout.specs.Lent.{counts_found, counts_left};
+ghost use Rattle.layout.specs.Views.{Long, arrays, sizes_in, state_in};
 ghost use Rattle.slot_checked.specs.Says.{state_number, CountsSay, PlanCheckedSays};
 
 use layout::{Arrival, CellArray, CountArray, HeadArray, Regs, Request, RingArray, TailArray};
@@ -41,11 +41,12 @@ pub fn judge_state<'a>(
     regs: Regs,
     bytes: usize,
 ) -> u8
-    requires { Long (given tail head cells firsts stored) }
-    ensures { (result ≡ state_number (keeps paper (state_in regs (found tail head cells firsts stored)))
+    requires { Long (arrays tail.now head.now cells.now firsts.now stored.now) }
+    ensures { (result ≡ state_number
+        (keeps paper (state_in regs (arrays tail.now head.now cells.now firsts.now stored.now)))
         (sizes_in regs) bytes)
-        × CountsSay (state_in regs (found tail head cells firsts stored))
-        (state_in regs (found tail head cells firsts stored))
+        × CountsSay (state_in regs (arrays tail.now head.now cells.now firsts.now stored.now))
+        (state_in regs (arrays tail.now head.now cells.now firsts.now stored.now))
         (counts_found tails heads owing) (counts_left tails heads owing) }
 {
     let judged = slot_rules::judge_rules(tail, head, cells, firsts, stored, regs);
@@ -74,8 +75,8 @@ pub fn plan<'a>(
     request: Request,
     bytes: usize,
 ) -> Plan
-    requires { Long (given tail head cells firsts stored) }
-    ensures { PlanCheckedSays (state_in regs (found tail head cells firsts stored)) bytes
+    requires { Long (arrays tail.now head.now cells.now firsts.now stored.now) }
+    ensures { PlanCheckedSays (state_in regs (arrays tail.now head.now cells.now firsts.now stored.now)) bytes
         (call_in arrival request) result }
 {
     let judged = slot_rules::judge_rules(tail, head, cells, firsts, stored, regs);

@@ -11,7 +11,7 @@ use lib.ListN.{length}
 use borrow.Author.Tests.{ltb-true, ltb-false}
 use Rattle.model.specs.Basics.{all_of}
 use Rattle.model.specs.Sizes.{paper, lookahead, store_bytes}
-use Rattle.model.specs.State.{Ring, State, blocks, ring_of, cell_below}
+use Rattle.model.specs.State.{Ring, State, ring_of, cell_below}
 use Rattle.model.specs.Slot.{Call, refusal, Reply, number_alone, Answer, carried_out, answer, slot}
 use Rattle.model.proofs.basics.Tests.{by_test}
 use Rattle.model.proofs.basics.Cells.{cells_below_holds}

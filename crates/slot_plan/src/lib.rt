@@ -12,8 +12,8 @@ ghost use Rattle.model.specs.State.{Byte, owed, cell_below};
 ghost use Rattle.layout.specs.Lengths.{tail_places, head_places, cell_places, queue_places};
 ghost use Rattle.layout.specs.Entries.{counts_in, cell_of, cells_in};
 ghost use Rattle.layout.specs.Calls.{chosen_in, arrival_in, request_in, refill_in, call_in};
+ghost use Rattle.layout.specs.Counts.{by_queue};
 ghost use Rattle.layout.specs.Views.{sizes_in};
-ghost use Rattle.layout.specs.Lent.{counts_found};
 ghost use Rattle.layout.specs.Figures.{figures_in, new_cell};
 ghost use Rattle.lookahead.specs.Says.{scan_ends};
 ghost use Rattle.slot_counts.specs.Says.{arrival_counted, tails_asked};
@@ -99,7 +99,8 @@ pub fn to_read(
     let stopped = lookahead::scan(cells, 1, regs.queues * (regs.block - 1) + 1, credits);
     // It began at place 1, with the cell that leaves in the next slot: so the place where it stopped says in how many
     // slots a cell leaves, be it one of those that it scanned or the new one behind them.
-    layout::refill_at(or_new(stopped, owes, request), stopped.place)
+    let place = stopped.place;
+    layout::refill_at(or_new(stopped, owes, request), place)
 }
 
 // The arrival that joins before the request, and the one that joins after it: one of the two is none.
@@ -170,7 +171,7 @@ pub fn decide(
         × (length stored.now ≡ queue_places) × (length cells.now ≡ cell_places)
         × (all_of (cell_below queue_places) (cells_in (lookahead (sizes_in regs)) cells.now) ≡ true)
         × ((q : ℕ) → counts_in tails.now q ≤ tail_places) }
-    ensures { PlanSays (figures_in regs (counts_found tails heads owing) stored.now)
+    ensures { PlanSays (figures_in regs (by_queue tails.now heads.now owing.now) stored.now)
         regs.phase regs.head_fill (cells_in (lookahead (sizes_in regs)) cells.now)
         (call_in arrival request) result }
 {

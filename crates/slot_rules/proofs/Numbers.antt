@@ -1,7 +1,7 @@
 -- The numbers of a state fit exactly where the sizes are accepted, the phase is below b, each mark lies between its
 -- fill and its cache size and the last one asked is below Q; and then fills and lookahead lie within their arrays.
 use mathlib.Core.Path.{◌≡◌, sym, ◌∙◌}
-use mathlib.Core.Bool.{Bool, true, false, and_true}
+use mathlib.Core.Bool.{Bool, true, false, and-true}
 use mathlib.Core.List.{List, [], ◌∷◌}
 use Prim.Native.Nat.{ℕ, ◌≤◌, ◌<◌}
 use native.Mathlib.Omega.{arith}
@@ -69,7 +69,7 @@ fit_decided regs sizes-ok phase_ok tail_low tail_high head_low head_high =
       between-holds regs.tail_fill regs.tail_mark (tail_size (sizes_in regs)) tail_low tail_high,
       between-holds regs.head_fill regs.head_mark (head_size (sizes_in regs)) head_low head_high,
     )
-    (sym (and_true (ltb regs.last_asked regs.queues)))
+    (sym (and-true (ltb regs.last_asked regs.queues)))
 
 pub fit_holds : (regs : Regs) → Fit regs → regs_keep regs ≡ true
 fit_holds regs f =

@@ -1,6 +1,6 @@
 -- All queues keep their rules exactly where each does: the loop adds one queue that does, or ends at one that does not.
 use mathlib.Core.Path.{◌≡◌, sym, ◌∙◌}
-use mathlib.Core.Bool.{Bool, true, false, ◌&&◌, and_true}
+use mathlib.Core.Bool.{Bool, true, false, ◌&&◌, and-true}
 use mathlib.Core.List.{List}
 use Prim.Native.Nat.{ℕ, ◌+◌, ◌*◌, ◌≤◌, ◌<◌}
 use native.Mathlib.Omega.{arith}
@@ -49,7 +49,7 @@ module _ (regs : Regs) (first count tail head owed : ℕ) where
       → backed ≡ ring_keeps regs first count tail head owed
   ring-decided h k =
       rw (lt-ltb first regs.depth h, le-leb (tail + regs.block * count) (regs.depth * regs.block) k)
-      (sym (and_true backed))
+      (sym (and-true backed))
 
 -- The products of one queue's numbers are small.
 pub blocks-small : (regs : Regs) (count : ℕ) → InLimits regs → count < 256 → regs.block * count ≤ 32640

@@ -5,8 +5,7 @@ ghost use Rattle.std.specs.Prelude.{◌≡◌, true, false, length};
 ghost use Rattle.model.specs.Sizes.{paper_limits, accepts};
 ghost use Rattle.layout.specs.Lengths.{queue_places};
 ghost use Rattle.layout.specs.Entries.{counts_in};
-ghost use Rattle.layout.specs.Views.{Long, sizes_in, state_in};
-ghost use Rattle.layout.specs.Lent.{given, found};
+ghost use Rattle.layout.specs.Views.{Long, arrays, sizes_in, state_in};
 ghost use Rattle.slot_rules.specs.Says.{regs_keep, ring_keeps, queues_keep, RulesSays};
 
 use layout::{CellArray, CountArray, HeadArray, QUEUE_PLACES, Regs, RingArray, TailArray};
@@ -108,8 +107,8 @@ pub fn judge_rules<'a>(
     stored: &'a RingArray,
     regs: Regs,
 ) -> RulesJudged
-    requires { Long (given tail head cells firsts stored) }
-    ensures { RulesSays (state_in regs (found tail head cells firsts stored)) result }
+    requires { Long (arrays tail.now head.now cells.now firsts.now stored.now) }
+    ensures { RulesSays (state_in regs (arrays tail.now head.now cells.now firsts.now stored.now)) result }
 {
     if regs_keep(regs) {
         let l = regs.queues * (regs.block - 1) + 1;

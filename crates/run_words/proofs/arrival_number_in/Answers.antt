@@ -1,0 +1,8 @@
+-- `arrival_number_in` meets its contract: it computes the definition.
+use mathlib.Core.Path.{refl}
+use Rattle.run_words.specs.Words.{arrival_number_of}
+use Rattle.run_words.proofs.arrival_number_in.Goals as goal
+
+pub returns : goal.returns
+unfolding arrival_number_of
+returns c = refl

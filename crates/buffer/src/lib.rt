@@ -20,7 +20,7 @@ pub mod steps;
 // "The state is one record that carries its caches and lookahead inside it": a byte of a cache is queue × 256 +
 // value, a cell is kind × 65,536 + queue × 256 + value, and for each queue there is its first ring block and its
 // block count.
-#[derive(Drop)]
+#[derive(Clone, Copy)]
 pub struct State {
     pub regs: Regs,
     pub tail: TailArray,

@@ -169,6 +169,7 @@ fn is_full(bytes: usize, blocks: usize, block: usize, depth: usize) -> bool
 
 // Whether an arrival and a request of one queue swap: the tail has a byte of it, it is full, and the request would be
 // Held.
+#[tactic(auto, using(crate::proofs::Swapping::no_byte_swaps_not))]
 fn swaps_at(state: State, queue: u8) -> bool
     ensures { result ≡ swaps_at (state_of state) queue }
 {

@@ -6,6 +6,9 @@ use native.Mathlib.Omega.{arith}
 use lib.Dec.{ltb}
 use lib.IntN.{pos, negsuc, ◌-ℤ◌}
 use lib.Signed.{mag}
+use mir.Syntax.{w32}
+use mir.Val.{to_z, of_z}
+use Rattle.std.proofs.lemmas.Int.{ints, to_z-of_z}
 
 -- The difference of two counts that fit 16 bits fits 32 bits with a sign.
 mag_of : (t : Bool) (m n k : ℕ) → m < k → n < k → mag (cond t (negsuc m) (pos n)) < k
@@ -19,3 +22,8 @@ difference_fits h (suc o) f g =
 
 pub same-difference : {h h' o o' : ℕ} → h ≡ h' → o ≡ o' → pos h -ℤ pos o ≡ pos h' -ℤ pos o'
 same-difference {h} {h'} {o} {o'} e f = ap (λ (n : ℕ). pos n -ℤ pos o) e ∙ ap (λ (n : ℕ). pos h' -ℤ pos n) f
+
+-- What the code computes with 32 bits is the difference.
+pub difference_back : (h o : ℕ) → h < 65536 → o < 65536
+    → to_z w32 (of_z w32 (to_z w32 h -ℤ to_z w32 o)) ≡ pos h -ℤ pos o
+difference_back h o f g = grind (arith, ints, to_z-of_z)

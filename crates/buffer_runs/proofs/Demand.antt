@@ -10,7 +10,7 @@ use Rattle.model.specs.State.{State, fresh}
 use Rattle.model.specs.Slot.{Call}
 use Rattle.model.specs.Calls.{idles}
 use Rattle.model.specs.Lists.{Step, run, last_state, last_store, accepted}
-use Rattle.model.specs.Chains.{Chain, no_slot, own_slot, arbiter_slot_lem}
+use Rattle.model.specs.Chains.{Chain, no_slot, own_slot, arbiters_slot}
 use Rattle.model.specs.Demand.{ListMeets}
 use Rattle.model.proofs.one_slot.Rules.{made_accepted}
 use Rattle.model.proofs.one_slot.Chains.{run-then}
@@ -41,7 +41,7 @@ is_chain (by_run {s = s} {store = store} {calls = calls} {answers = answers} say
     many_first (state_of s) store (calls_run calls answers) says.state_is says.store_is (is_chain rest)
 is_chain (by_idle {s = s} {store = store} {r = r} says rest) =
     many_first (state_of s) store (idles r.passed) says.state_is says.store_is (is_chain rest)
-is_chain (by_arbiter {arrival = arrival} says rest) = arbiter_slot_lem arrival says.promised (is_chain rest)
+is_chain (by_arbiter {arrival = arrival} says rest) = arbiters_slot arrival says.promised (is_chain rest)
 
 pub mixed_calls_meet : MixedCallsMeet
 mixed_calls_meet q b k made store steps last m zero c = (

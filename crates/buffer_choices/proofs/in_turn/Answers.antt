@@ -1,0 +1,83 @@
+-- `in_turn` meets its contract: a judgement other than 0 is the slot's refusal; else each step finds what it asks in
+-- the state that the one before it left, and all of them are the slot.
+use mathlib.Core.Path.{◌≡◌, refl, ◌∙◌}
+use Rattle.model.specs.Sizes.{paper}
+use Rattle.model.specs.Slot.{early_arrival, late_arrival}
+use Rattle.model.proofs.one_slot.Accepted.{Accepted}
+use Rattle.layout.specs.Calls.{arrival_in, call_in}
+use Rattle.buffer.specs.Says.{state_of}
+use Rattle.buffer.proofs.InTurn.{can_deliver, can_arrive, can_ask, can_arrive_late, can_write, can_read, can_turn}
+use Rattle.buffer.proofs.InTurn.{all_in_turn}
+use Rattle.buffer.proofs.Promises.{judged_carries, refused_says}
+use Rattle.buffer_choices.proofs.InTurn.{judged_accepted, early_told, late_told, owing_told, write_told}
+use Rattle.buffer_choices.proofs.InTurn.{read_told}
+use Rattle.buffer_choices.proofs.in_turn.Goals as goal
+use Rattle.buffer_choices.proofs.in_turn.Goals.{After-early_arrival-early, After-late_arrival-late, After-swaps-swapping}
+
+accepted : (c : After-swaps-swapping) → Accepted paper (state_of c.args.state) (c.args.store.now) (call_in c.judge-judged.result.arrival c.judge-judged.result.request)
+accepted c =
+    judged_accepted (c.args.store.now) (call_in c.args.arrival c.args.request) c.judge-judged.ensures
+    c.if-number-ne0.false
+
+-- What the four choices tell is what the slot decides.
+early-is : (c : After-early_arrival-early)
+    → arrival_in c.early_arrival-early.result ≡ early_arrival (state_of c.args.state) (call_in c.judge-judged.result.arrival c.judge-judged.result.request)
+early-is c =
+    early_told (state_of c.args.state) (call_in c.judge-judged.result.arrival c.judge-judged.result.request) c.swaps-swapping.ensures c.early_arrival-early.ensures
+
+late_is : (c : After-late_arrival-late)
+    → arrival_in c.late_arrival-late.result ≡ late_arrival (state_of c.args.state) (call_in c.judge-judged.result.arrival c.judge-judged.result.request)
+late_is c =
+    late_told (state_of c.args.state) (call_in c.judge-judged.result.arrival c.judge-judged.result.request) c.swaps-swapping.ensures c.late_arrival-late.ensures
+
+pub returns-then-number-ne0 : goal.returns-then-number-ne0
+returns-then-number-ne0 c =
+    let asked-call = call_in c.args.arrival c.args.request in
+    refused_says c.args.state c.args.store.now asked-call
+    (c.judge-judged.ensures.number_is c.args.store.now refl) c.if-number-ne0.true
+    c.number_alone-refused.ensures
+
+pub deliver-first-requires : goal.deliver-first-requires
+deliver-first-requires c = can_deliver _ _ _ (accepted (goal.at.deliver-first-requires c).After-swaps-swapping)
+
+pub arrive-arrived-requires : goal.arrive-arrived-requires
+arrive-arrived-requires c = can_arrive _ _ _ (accepted (goal.at.arrive-arrived-requires c).After-swaps-swapping) c.deliver-first.ensures.0
+
+pub ask-asked-requires : goal.ask-asked-requires
+ask-asked-requires c =
+    can_ask _ _ _ (accepted (goal.at.ask-asked-requires c).After-swaps-swapping) c.deliver-first.ensures.0 (early-is (goal.at.ask-asked-requires c).After-early_arrival-early) c.arrive-arrived.ensures
+    c.owes_request-owing.result (owing_told (accepted (goal.at.ask-asked-requires c).After-swaps-swapping) c.deliver-first.ensures.0 (early-is (goal.at.ask-asked-requires c).After-early_arrival-early) c.arrive-arrived.ensures c.owes_request-owing.ensures)
+
+pub arrive-filled-requires : goal.arrive-filled-requires
+arrive-filled-requires c =
+    can_arrive_late _ _ _ (accepted (goal.at.arrive-filled-requires c).After-swaps-swapping) c.deliver-first.ensures.0 (early-is (goal.at.arrive-filled-requires c).After-early_arrival-early) c.arrive-arrived.ensures
+    c.ask-asked.ensures
+
+pub write-wrote-requires : goal.write-wrote-requires
+write-wrote-requires c =
+    can_write _ _ _ (accepted (goal.at.write-wrote-requires c).After-swaps-swapping) c.deliver-first.ensures.0 (early-is (goal.at.write-wrote-requires c).After-early_arrival-early) c.arrive-arrived.ensures c.ask-asked.ensures
+    (late_is (goal.at.write-wrote-requires c).After-late_arrival-late) c.arrive-filled.ensures (write_told (accepted (goal.at.write-wrote-requires c).After-swaps-swapping) c.deliver-first.ensures.0 (early-is (goal.at.write-wrote-requires c).After-early_arrival-early) c.arrive-arrived.ensures c.ask-asked.ensures (late_is (goal.at.write-wrote-requires c).After-late_arrival-late) c.arrive-filled.ensures c.to_write-written.ensures)
+
+pub read-refilled-requires : goal.read-refilled-requires
+read-refilled-requires c =
+    can_read _ _ _ (accepted (goal.at.read-refilled-requires c).After-swaps-swapping) c.deliver-first.ensures.0 (early-is (goal.at.read-refilled-requires c).After-early_arrival-early) c.arrive-arrived.ensures c.ask-asked.ensures
+    (late_is (goal.at.read-refilled-requires c).After-late_arrival-late) c.arrive-filled.ensures (write_told (accepted (goal.at.read-refilled-requires c).After-swaps-swapping) c.deliver-first.ensures.0 (early-is (goal.at.read-refilled-requires c).After-early_arrival-early) c.arrive-arrived.ensures c.ask-asked.ensures (late_is (goal.at.read-refilled-requires c).After-late_arrival-late) c.arrive-filled.ensures c.to_write-written.ensures) c.write-wrote.ensures.0 c.write-wrote.ensures.1 (read_told (accepted (goal.at.read-refilled-requires c).After-swaps-swapping) c.deliver-first.ensures.0 (early-is (goal.at.read-refilled-requires c).After-early_arrival-early) c.arrive-arrived.ensures c.ask-asked.ensures (late_is (goal.at.read-refilled-requires c).After-late_arrival-late) c.arrive-filled.ensures c.to_write-written.ensures c.write-wrote.ensures.0 c.write-wrote.ensures.1 c.to_read-refill.ensures)
+
+pub turn-turned-requires : goal.turn-turned-requires
+turn-turned-requires c =
+    can_turn _ _ _ (accepted (goal.at.turn-turned-requires c).After-swaps-swapping) c.deliver-first.ensures.0 (early-is (goal.at.turn-turned-requires c).After-early_arrival-early) c.arrive-arrived.ensures c.ask-asked.ensures
+    (late_is (goal.at.turn-turned-requires c).After-late_arrival-late) c.arrive-filled.ensures (write_told (accepted (goal.at.turn-turned-requires c).After-swaps-swapping) c.deliver-first.ensures.0 (early-is (goal.at.turn-turned-requires c).After-early_arrival-early) c.arrive-arrived.ensures c.ask-asked.ensures (late_is (goal.at.turn-turned-requires c).After-late_arrival-late) c.arrive-filled.ensures c.to_write-written.ensures) c.write-wrote.ensures.0 c.write-wrote.ensures.1 (read_told (accepted (goal.at.turn-turned-requires c).After-swaps-swapping) c.deliver-first.ensures.0 (early-is (goal.at.turn-turned-requires c).After-early_arrival-early) c.arrive-arrived.ensures c.ask-asked.ensures (late_is (goal.at.turn-turned-requires c).After-late_arrival-late) c.arrive-filled.ensures c.to_write-written.ensures c.write-wrote.ensures.0 c.write-wrote.ensures.1 c.to_read-refill.ensures)
+    c.read-refilled.ensures
+
+pub returns : goal.returns
+returns c =
+    let judged = c.judge-judged in
+    record {
+      promised = all_in_turn _ _ _ (accepted (goal.at.returns c).After-swaps-swapping) c.deliver-first.ensures.0 (early-is (goal.at.returns c).After-early_arrival-early) c.arrive-arrived.ensures
+          c.ask-asked.ensures (late_is (goal.at.returns c).After-late_arrival-late) c.arrive-filled.ensures (write_told (accepted (goal.at.returns c).After-swaps-swapping) c.deliver-first.ensures.0 (early-is (goal.at.returns c).After-early_arrival-early) c.arrive-arrived.ensures c.ask-asked.ensures (late_is (goal.at.returns c).After-late_arrival-late) c.arrive-filled.ensures c.to_write-written.ensures) c.write-wrote.ensures.0
+          c.write-wrote.ensures.1 (read_told (accepted (goal.at.returns c).After-swaps-swapping) c.deliver-first.ensures.0 (early-is (goal.at.returns c).After-early_arrival-early) c.arrive-arrived.ensures c.ask-asked.ensures (late_is (goal.at.returns c).After-late_arrival-late) c.arrive-filled.ensures c.to_write-written.ensures c.write-wrote.ensures.0 c.write-wrote.ensures.1 c.to_read-refill.ensures) c.read-refilled.ensures judged.result.arrival_number
+          judged.result.request_number c.turn-turned.ensures c.deliver-first.ensures.1
+          ∙ judged_carries (c.args.store.now) (call_in c.args.arrival c.args.request) judged.ensures
+          c.if-number-ne0.false;
+      as_given = λ refused. absurd (refused refl);
+    }

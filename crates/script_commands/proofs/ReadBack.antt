@@ -79,6 +79,7 @@ script-append (c ∷ cs) ds =
 -- A script in order is judged good, and its commands are those that were written.
 pub script-reads_back : (first : Bool) (offset : ℕ) (cs : List Command) → InOrder first cs → All OperandsFit cs
     → judge_from first offset (script_bytes cs) ≡ record { commands = cs; number = 0; offset = 0 }
+script-reads_back first offset [] x' h = elim x' [ ]
 script-reads_back first offset (c ∷ []) (ends t e) h =
     judged_end first offset (command_bytes c ++ []) c (length (command_bytes c)) (reads_back first c [] h.0 t) e
     ∙ ap (λ (bytes : List ℕ). with_command c (after_end (offset + length (command_bytes c)) bytes))

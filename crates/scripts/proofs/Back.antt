@@ -99,6 +99,9 @@ module _ (first : Bool) (d : Command) (bytes rest : List ℕ) (r : code-reading.
 script-read : (first : Bool) (ds : List Command) → InOrder first ds → All OperandsFit ds
     → (bytes : List ℕ) → bytes ≡ script_bytes ds → (read : List code.Command) → Reads first bytes read
     → map command_in read ≡ ds
+script-read first [] x' fits bytes e read x'' = elim x' [ ]
+script-read first (d ∷ []) (ends in_place last) fits bytes e [] x'' = elim x'' [ ]
+script-read first (d ∷ ds) (goes_on in_place on order) fits bytes e [] x'' = elim x'' [ ]
 script-read first (d ∷ []) (ends in_place last) fits bytes e (c ∷ [])
     (end_read {r = r} {n = n} reads is_taken is-end) =
     ap (λ (b : Command). b ∷ []) (command-read first d bytes [] r c n e fits.0 in_place reads is_taken)
@@ -125,6 +128,7 @@ answer-is first d bytes rest c e fits in_place same =
 script-can_be_read : (first : Bool) (ds : List Command) → InOrder first ds → All OperandsFit ds
     → (bytes : List ℕ) → bytes ≡ script_bytes ds → (cs : List code.Command) → map command_in cs ≡ ds
     → Reads first bytes cs
+script-can_be_read first [] x' fits bytes e cs f = elim x' [ ]
 script-can_be_read first (d ∷ []) (ends in_place last) fits bytes e [] f = absurd (nil_not_cons d [] f)
 script-can_be_read first (d ∷ []) (ends in_place last) fits bytes e (c ∷ []) f =
     let same : command_in c ≡ d = cc in

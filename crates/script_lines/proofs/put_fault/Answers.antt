@@ -1,0 +1,40 @@
+-- `script_lines::put_fault` meets its contract: its letter, the number, the offset and the newline are the line.
+use Rattle.std.proofs.Common.{arith}
+use Rattle.script_lines.specs.Lines.{fault}
+use Rattle.script_lines.proofs.Pieces.{rest_fits, puts_piece, all_put, line_starts}
+use Rattle.script_lines.proofs.put_fault.Goals as goal
+
+pub put_byte-behind_letter-requires : goal.put_byte-behind_letter-requires
+put_byte-behind_letter-requires c =
+    let begun = line_starts (fault c.args.number c.args.offset) c.args.place c.args.output.now c.requires in
+    omega (arith, rest_fits begun)
+
+pub put_number-behind_number-requires : goal.put_number-behind_number-requires
+put_number-behind_number-requires c =
+    let begun = line_starts (fault c.args.number c.args.offset) c.args.place c.args.output.now c.requires in
+    let after-letter = puts_piece begun c.put_byte-behind_letter.ensures in
+    omega (arith, rest_fits after-letter)
+
+pub put_number-behind_offset-requires : goal.put_number-behind_offset-requires
+put_number-behind_offset-requires c =
+    let begun = line_starts (fault c.args.number c.args.offset) c.args.place c.args.output.now c.requires in
+    let after-letter = puts_piece begun c.put_byte-behind_letter.ensures in
+    let after-number = puts_piece after-letter c.put_number-behind_number.ensures in
+    omega (arith, rest_fits after-number)
+
+pub put_byte-requires : goal.put_byte-requires
+put_byte-requires c =
+    let begun = line_starts (fault c.args.number c.args.offset) c.args.place c.args.output.now c.requires in
+    let after-letter = puts_piece begun c.put_byte-behind_letter.ensures in
+    let after-number = puts_piece after-letter c.put_number-behind_number.ensures in
+    let after-offset = puts_piece after-number c.put_number-behind_offset.ensures in
+    omega (arith, rest_fits after-offset)
+
+pub returns : goal.returns
+returns c =
+    let begun = line_starts (fault c.args.number c.args.offset) c.args.place c.args.output.now c.requires in
+    let after-letter = puts_piece begun c.put_byte-behind_letter.ensures in
+    let after-number = puts_piece after-letter c.put_number-behind_number.ensures in
+    let after-offset = puts_piece after-number c.put_number-behind_offset.ensures in
+    let after-newline = puts_piece after-offset c.put_byte.ensures in
+    all_put after-newline

@@ -1,0 +1,12 @@
+-- `judge` meets its contract: before each turn the whole script has the number and the offset of the script from the
+-- place on; the measure is what is left of it.
+use Prim.Native.Nat.{◌-◌}
+use lib.ListN.{length}
+use Rattle.scripts.proofs.Turns.{JudgedTo}
+use Rattle.scripts.proofs.judge.Given as goal
+
+abbrev pub invariant-loop-number : goal.invariant-loop-number
+invariant-loop-number l = JudgedTo l.script l.at l.first
+
+abbrev pub decreases-loop-number : goal.decreases-loop-number
+decreases-loop-number l = length l.script - l.at

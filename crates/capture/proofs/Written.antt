@@ -2,8 +2,7 @@
 use mathlib.Core.Path.{◌≡◌, sym, ap, ◌∙◌}
 use mathlib.Core.List.{List}
 use Prim.Native.Nat.{ℕ}
-use native.Mathlib.Omega.{arith}
-use lib.ListN.{length, take, drop, length-append}
+use lib.ListN.{length, take, drop}
 use lib.Seq.{take-append_seam}
 use Rattle.model.specs.Sizes.{sizes}
 use Rattle.model.proofs.basics.FirstRefusal.{no_refusal_at}
@@ -12,8 +11,6 @@ use Rattle.captures.specs.declared.Conversion.{Conversion}
 use Rattle.captures.specs.declared.Conversion.TheVariants.{Written}
 use Rattle.captures.specs.Says.{conversion_of, ConvertedSays}
 use Rattle.captures.proofs.Told.{number_told, length_told, told-number}
-use Rattle.io.specs.Counts.{IsPrefixLen}
-use Rattle.program_input.proofs.Within.{counts}
 use Rattle.capture.specs.Says.{IsCaptureScript}
 
 module _ {q b k : ℕ} {capture output : List ℕ} {r : Conversion} {output' : List ℕ}
@@ -35,11 +32,6 @@ module _ {q b k : ℕ} {capture output : List ℕ} {r : Conversion} {output' : L
 
   output_is : output' ≡ output_after 0 script output
   output_is = says.output_is ∙ ap (λ (m : ℕ). output_after m script output) none_refused
-
-  pub script-within : IsPrefixLen n output'
-  script-within =
-      counts n output'
-      (omega (arith, length-is, ap length output_is, length-append script (drop (length script) output)))
 
   pub is_script : IsCaptureScript (take n output')
   is_script = record {

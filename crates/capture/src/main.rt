@@ -8,6 +8,10 @@ ghost use Rattle.capture.specs.Decimal.{decimal_in, most_told, at_most, number_r
 ghost use Rattle.capture.specs.Says.{IsCaptureScript};
 
 use captures::Conversion;
+use std::env::FillError;
+use std::fs;
+use std::io::{Eprint, Error, Print, Result};
+use std::rt::{Env, Files};
 
 // One byte more than a capture may have here, to tell a longer one. The library takes captures of any length.
 const INPUT: usize = 1048577;
@@ -75,102 +79,113 @@ fn decimal(text: &[u8]) -> Number
 }
 
 // The number that an argument is, of at most 20 letters.
-fn argument(place: usize) -> Number {
+fn argument(rt: &impl Env, place: usize) -> Number {
     let mut text = [0u8; 20];
-    let length = os::arg(place, &mut text);
-    if os::errno() != 0 {
-        return Number::Other;
+    match rt.arg(place, &mut text) {
+        Ok(length) => decimal(&text[..length]),
+        Err(_) => Number::Other,
     }
-    decimal(&text[..length])
 }
 
-// A line on standard error.
-fn say(line: &[u8]) {
-    io::write_all(libc::STDERR_FILENO, line);
-    io::write_all(libc::STDERR_FILENO, b"\n");
+// Whether there is such an argument.
+fn has_argument(rt: &impl Env, place: usize) -> bool {
+    match rt.arg(place, &mut []) {
+        Err(FillError::NotPresent) => false,
+        _ => true,
+    }
+}
+
+// A line on standard error. One that cannot be written is not told.
+fn say(rt: &impl Eprint, line: &str) {
+    let _ = eprintln!(rt; "{line}");
 }
 
 // What the system says of a file, or of standard output, where it fails.
-fn fail(name: &[u8]) {
-    io::write_all(libc::STDERR_FILENO, b"capture: ");
-    os::fail(name);
+fn fail(rt: &impl Eprint, name: &str, error: &Error) {
+    program_input::fail(rt, "capture", name, error);
 }
 
 // The answer's number, 0 where a script was written.
-fn tell(number: u8) {
-    io::print_decimal(libc::STDERR_FILENO, number as u64);
-    say(b"");
+fn tell(rt: &impl Eprint, number: u8) {
+    let _ = eprintln!(rt; "{number}");
 }
 
-// Writes a script. No contract can say what a call of C's writes: so it is said, and proved where it is called, of what
-// is handed over to be written, which is all that this function has.
-fn write_script(script: &[u8]) -> bool
+// Writes a script. No contract can say what the system writes: so it is said, and proved where it is called, of what is
+// handed over to be written, which is all that this function has.
+fn write_script(to: &impl Print, script: &[u8]) -> Result<()>
     requires { IsCaptureScript script.now }
 {
-    io::write_all(libc::STDOUT_FILENO, script)
+    to.write_all(script)
 }
 
 // Converts a capture and writes its script.
-fn convert(queues: usize, block: usize, depth: usize, capture: &[u8]) {
+fn convert(rt: &(impl Print + Eprint), queues: usize, block: usize, depth: usize, capture: &[u8]) {
     let mut output = output_room();
     let converted = captures::to_script(queues, block, depth, capture, &mut output);
     match converted {
-        Conversion::Written(length) => {
-            if write_script(&output[..length]) {
-                tell(0);
-                return;
-            }
-            fail(b"standard output");
-        }
-        Conversion::Refused(number) => tell(number),
+        Conversion::Written(length) => match write_script(rt, &output[..length]) {
+            Ok(()) => tell(rt, 0),
+            Err(error) => fail(rt, "standard output", &error),
+        },
+        Conversion::Refused(number) => tell(rt, number),
     }
 }
 
 // Opens a capture file, reads and converts it.
-fn convert_file(path: &[u8], queues: usize, block: usize, depth: usize) {
-    let file = os::open_read(path);
-    if file < 0 {
-        fail(path);
-        return;
-    }
+fn convert_file(
+    rt: &(impl Files + Print + Eprint),
+    path: &str,
+    queues: usize,
+    block: usize,
+    depth: usize,
+) {
+    let mut file = match fs::open(rt, path) {
+        Ok(file) => file,
+        Err(error) => {
+            fail(rt, path, &error);
+            return;
+        }
+    };
     let mut input = input_room();
-    let found = program_input::read_all(file, &mut input);
+    let found = program_input::read_all(&mut file, &mut input);
     if found.failed {
-        fail(path);
+        let error = found.error.unwrap();
+        fail(rt, path, &error);
         return;
     }
     let length = found.length;
     if length == INPUT {
-        io::write_all(libc::STDERR_FILENO, b"capture: ");
-        io::write_all(libc::STDERR_FILENO, path);
-        say(b": longer than 1,048,576 bytes");
+        let _ = eprintln!(rt; "capture: {path}: longer than 1,048,576 bytes");
         return;
     }
-    convert(queues, block, depth, &input[..length]);
+    convert(rt, queues, block, depth, &input[..length]);
 }
 
-fn main() {
-    if os::arg_count() != 5 {
-        say(b"usage: capture FILE Q b K");
+fn main(rt: HostRuntime) {
+    if !has_argument(&rt, 4) || has_argument(&rt, 5) {
+        say(&rt, "usage: capture FILE Q b K");
         return;
     }
-    let Number::Is(queues) = argument(2) else {
-        say(b"capture: Q is no number of at most 20 digits");
+    let Number::Is(queues) = argument(&rt, 2) else {
+        say(&rt, "capture: Q is no number of at most 20 digits");
         return;
     };
-    let Number::Is(block) = argument(3) else {
-        say(b"capture: b is no number of at most 20 digits");
+    let Number::Is(block) = argument(&rt, 3) else {
+        say(&rt, "capture: b is no number of at most 20 digits");
         return;
     };
-    let Number::Is(depth) = argument(4) else {
-        say(b"capture: K is no number of at most 20 digits");
+    let Number::Is(depth) = argument(&rt, 4) else {
+        say(&rt, "capture: K is no number of at most 20 digits");
         return;
     };
-    let mut path = io::buffer();
-    let length = os::arg(1, &mut path);
-    if os::errno() != 0 {
-        fail(b"FILE");
+    let mut path = [0u8; 4096];
+    let Ok(length) = rt.arg(1, &mut path) else {
+        say(&rt, "capture: FILE: File name too long");
         return;
-    }
-    convert_file(&path[..length], queues, block, depth);
+    };
+    let Ok(path) = str::from_utf8(&path[..length]) else {
+        say(&rt, "capture: FILE: its name is not UTF-8");
+        return;
+    };
+    convert_file(&rt, path, queues, block, depth);
 }

@@ -1,55 +1,38 @@
-// What a slot did, in words: for the two programs that the README shows.
+// What a slot did, in words: for the two programs that the README shows. A line that cannot be written is not told.
 #![tactic(auto)]
 
 use layout::{Chosen, Delivery};
-
-fn words(text: &[u8]) {
-    io::write_all(libc::STDOUT_FILENO, text);
-}
-
-fn number(n: u64) {
-    io::print_decimal(libc::STDOUT_FILENO, n);
-}
+use std::io::Print;
 
 // A slot, what it does, and the number that it does it with.
-fn line(slot: u64, does: &[u8], n: u8) {
-    words(b"slot ");
-    number(slot);
-    words(does);
-    number(n as u64);
-    words(b"\n");
+fn line(to: &impl Print, slot: u64, does: &str, n: u8) {
+    let _ = println!(to; "slot {slot} {does} {n}");
 }
 
-fn byte(slot: u64, delivery: Delivery) {
+fn byte(to: &impl Print, slot: u64, delivery: Delivery) {
     match delivery {
         Delivery::Gives(queue, value) => {
-            words(b"slot ");
-            number(slot);
-            words(b" delivers byte ");
-            number(value as u64);
-            words(b" of queue ");
-            number(queue as u64);
-            words(b"\n");
+            let _ = println!(to; "slot {slot} delivers byte {value} of queue {queue}");
         }
         Delivery::NoDelivery => {}
     }
 }
 
-fn block(slot: u64, does: &[u8], chosen: Chosen) {
+fn block(to: &impl Print, slot: u64, does: &str, chosen: Chosen) {
     match chosen {
-        Chosen::Queue(queue) => line(slot, does, queue),
+        Chosen::Queue(queue) => line(to, slot, does, queue),
         Chosen::Nothing => {}
     }
 }
 
 // A line for each thing that moved: the byte delivered, the block written, the block read.
-pub fn moves(slot: u64, delivery: Delivery, written: Chosen, read: Chosen) {
-    byte(slot, delivery);
-    block(slot, b" writes a block of queue ", written);
-    block(slot, b" reads a block of queue ", read);
+pub fn moves(to: &impl Print, slot: u64, delivery: Delivery, written: Chosen, read: Chosen) {
+    byte(to, slot, delivery);
+    block(to, slot, "writes a block of queue", written);
+    block(to, slot, "reads a block of queue", read);
 }
 
 // The number with which a slot, or the sizes, are refused.
-pub fn refusal(slot: u64, with: u8) {
-    line(slot, b" is refused with ", with);
+pub fn refusal(to: &impl Print, slot: u64, with: u8) {
+    line(to, slot, "is refused with", with);
 }

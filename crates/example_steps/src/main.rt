@@ -3,14 +3,24 @@
 #![tactic(auto)]
 
 use buffer::State;
+use layout::Arrival::{Comes, NoArrival};
+use layout::Request::{Asks, NoRequest};
 use layout::{Arrival, Request};
+use std::io::Print;
 
 // One slot: prints what it moved, and hands its state on.
-fn in_steps(t: u64, state: State, arrival: Arrival, request: Request, store: &mut [u8]) -> State {
+fn in_steps(
+    to: &impl Print,
+    t: u64,
+    state: State,
+    arrival: Arrival,
+    request: Request,
+    store: &mut [u8],
+) -> State {
     let judged = state.judge(arrival, request, store.len());
     let number = judged.number;
     if number != 0 {
-        example_print::refusal(t, number);
+        example_print::refusal(to, t, number);
         return state;
     }
     // What is left of the call: a half that is dropped never came.
@@ -37,38 +47,26 @@ fn in_steps(t: u64, state: State, arrival: Arrival, request: Request, store: &mu
     let refill = buffer_choices::to_read(wrote);
     let read = refill.queue;
     let refilled = wrote.read(read, store);
-    example_print::moves(t, delivery, written, read);
+    example_print::moves(to, t, delivery, written, read);
     // 5. The phase rises by one.
     refilled.turn()
 }
 
-fn main() {
+fn main(rt: HostRuntime) {
     let made = State::make(2, 2, 4);
     if made.number != 0 {
-        example_print::refusal(0, made.number);
+        example_print::refusal(&rt, 0, made.number);
         return;
     }
     let fresh = made.state;
     let mut store = [0u8; 16];
-    let s0 = in_steps(
-        0,
-        fresh,
-        Arrival::Comes(0, b'a'),
-        Request::NoRequest,
-        &mut store,
-    );
-    let s1 = in_steps(
-        1,
-        s0,
-        Arrival::Comes(0, b'b'),
-        Request::NoRequest,
-        &mut store,
-    );
-    let s2 = in_steps(2, s1, Arrival::Comes(1, b'x'), Request::Asks(0), &mut store);
-    let s3 = in_steps(3, s2, Arrival::Comes(1, b'y'), Request::Asks(1), &mut store);
-    let s4 = in_steps(4, s3, Arrival::NoArrival, Request::Asks(0), &mut store);
-    let s5 = in_steps(5, s4, Arrival::NoArrival, Request::Asks(1), &mut store);
-    let s6 = in_steps(6, s5, Arrival::NoArrival, Request::NoRequest, &mut store);
-    let s7 = in_steps(7, s6, Arrival::NoArrival, Request::NoRequest, &mut store);
-    in_steps(8, s7, Arrival::NoArrival, Request::NoRequest, &mut store);
+    let s0 = in_steps(&rt, 0, fresh, Comes(0, b'a'), NoRequest, &mut store);
+    let s1 = in_steps(&rt, 1, s0, Comes(0, b'b'), NoRequest, &mut store);
+    let s2 = in_steps(&rt, 2, s1, Comes(1, b'x'), Asks(0), &mut store);
+    let s3 = in_steps(&rt, 3, s2, Comes(1, b'y'), Asks(1), &mut store);
+    let s4 = in_steps(&rt, 4, s3, NoArrival, Asks(0), &mut store);
+    let s5 = in_steps(&rt, 5, s4, NoArrival, Asks(1), &mut store);
+    let s6 = in_steps(&rt, 6, s5, NoArrival, NoRequest, &mut store);
+    let s7 = in_steps(&rt, 7, s6, NoArrival, NoRequest, &mut store);
+    in_steps(&rt, 8, s7, NoArrival, NoRequest, &mut store);
 }

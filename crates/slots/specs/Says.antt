@@ -1,5 +1,5 @@
 -- What the program's parts promise of the text that is written.
-use Rattle.std.specs.Prelude.{◌≡◌, Bool, false, List, ℕ, take}
+use Rattle.std.specs.Prelude.{◌≡◌, false, List, ℕ, take}
 use Rattle.io.specs.Counts.{IsPrefixLen}
 use Rattle.script_text.specs.Run.{most_bytes, output_bound, program_text}
 use Rattle.slots.specs.declared.Answer.{Answer}

@@ -2,12 +2,13 @@
 // decides nothing: `script_runner::run_script` has the text.
 #![tactic(auto)]
 
-ghost use Rattle.std.specs.Prelude.{◌≡◌, ◌≤◌, ◌<◌, length, take};
+ghost use Rattle.std.specs.Prelude.{◌≡◌, ◌≤◌, ◌<◌, true, length, take, IsSome};
 ghost use Rattle.io.specs.Counts.{IsPrefixLen};
 ghost use Rattle.script_text.specs.Run.{most_bytes, program_text, output_bound};
 ghost use Rattle.slots.specs.Says.{most_output, IsProgramText, AnswerSays};
 
 use script_runner::Ran;
+use std::io::{Error, Print, Read, Result};
 
 // One byte more than a script may have. A longer input need not be read on: a full buffer is over the length of a
 // script, so that what follows it changes nothing (`program_reads_enough`, `longer_input_prints_alike`).
@@ -40,28 +41,31 @@ fn print_script(script: &[u8], output: &mut [u8]) -> usize
     }
 }
 
-// What came of the input: how many bytes it has, how many its text has, and whether a read failed.
+// What came of the input: how many bytes it has, how many its text has, and whether a read failed, with what it failed.
 #[derive(Drop)]
 struct Answer {
     read: usize,
     printed: usize,
     failed: bool,
+    error: Option<Error>,
 }
 
 // Reads the input and puts its text at the start of the output. Where a read failed, nothing is run: what was read is
 // no whole input, and nothing is printed.
-fn answer_input(input: &mut [u8], output: &mut [u8]) -> Answer
+fn answer_input<R: Read>(from: &mut R, input: &mut [u8], output: &mut [u8]) -> Answer
     requires most_bytes_in_bounds { most_bytes < length input.old }
     requires most_output_in_bounds { most_output ≤ length output.old }
-    ensures { AnswerSays input.new result output.new }
+    ensures says { AnswerSays input.new result output.new }
+    ensures told { result.failed ≡ true → IsSome result.error }
 {
-    let found = program_input::read_all(libc::STDIN_FILENO, input);
+    let found = program_input::read_all(from, input);
     let read = found.length;
     if found.failed {
         return Answer {
             read: read,
             printed: 0,
             failed: true,
+            error: found.error,
         };
     }
     let printed = print_script(&input[..read], output);
@@ -69,28 +73,31 @@ fn answer_input(input: &mut [u8], output: &mut [u8]) -> Answer
         read: read,
         printed: printed,
         failed: false,
+        error: None,
     }
 }
 
-// Writes a text of the program's. No contract can say what a call of C's writes: so it is said, and proved in `main`,
-// of what is handed over to be written, which is all that this function has.
-fn write_text(text: &[u8]) -> bool
+// Writes a text of the program's. No contract can say what the system writes: so it is said, and proved in `main`, of
+// what is handed over to be written, which is all that this function has.
+fn write_text(to: &impl Print, text: &[u8]) -> Result<()>
     requires { IsProgramText text.now }
 {
-    io::write_all(libc::STDOUT_FILENO, text)
+    to.write_all(text)
 }
 
-fn main() {
+fn main(rt: HostRuntime) {
     let mut input = [0u8; INPUT];
     let mut output = output_room();
-    let answer = answer_input(&mut input, &mut output);
+    let mut from = rt.stdin();
+    let answer = answer_input(&mut from, &mut input, &mut output);
     if answer.failed {
-        os::fail(b"slots: standard input");
+        let error = answer.error.unwrap();
+        program_input::fail(&rt, "slots", "standard input", &error);
         return;
     }
     let printed = answer.printed;
-    if write_text(&output[..printed]) {
-        return;
+    match write_text(&rt, &output[..printed]) {
+        Ok(()) => {}
+        Err(error) => program_input::fail(&rt, "slots", "standard output", &error),
     }
-    os::fail(b"slots: standard output");
 }

@@ -1,0 +1,61 @@
+-- In `in_steps` each step finds what it asks: after a judgement of 0 in the state that the one before it left.
+use mathlib.Core.Path.{◌≡◌}
+use Rattle.model.specs.Sizes.{paper}
+use Rattle.model.specs.Slot.{early_arrival, late_arrival}
+use Rattle.model.proofs.one_slot.Accepted.{Accepted}
+use Rattle.layout.specs.Calls.{arrival_in, call_in}
+use Rattle.buffer.specs.Says.{state_of}
+use Rattle.buffer.proofs.InTurn.{can_deliver, can_arrive, can_ask, can_arrive_late, can_write, can_read, can_turn}
+use Rattle.buffer_choices.proofs.InTurn.{judged_accepted, early_told, late_told, owing_told, write_told}
+use Rattle.buffer_choices.proofs.InTurn.{read_told}
+use Rattle.example_steps.proofs.in_steps.Given.{Over}
+use Rattle.example_steps.proofs.in_steps.Goals as goal
+use Rattle.example_steps.proofs.in_steps.Goals.{After-early_arrival-early, After-late_arrival-late, After-swaps-swapping}
+
+accepted : (o : Over) (c : After-swaps-swapping o) → Accepted paper (state_of c.args.state) (c.args.store.now) (call_in c.judge-judged.result.arrival c.judge-judged.result.request)
+accepted o c =
+    judged_accepted (c.args.store.now) (call_in c.args.arrival c.args.request) c.judge-judged.ensures
+    c.if-number-ne0.false
+
+-- What the four choices tell is what the slot decides.
+early-is : (o : Over) (c : After-early_arrival-early o)
+    → arrival_in c.early_arrival-early.result ≡ early_arrival (state_of c.args.state) (call_in c.judge-judged.result.arrival c.judge-judged.result.request)
+early-is o c =
+    early_told (state_of c.args.state) (call_in c.judge-judged.result.arrival c.judge-judged.result.request) c.swaps-swapping.ensures c.early_arrival-early.ensures
+
+late_is : (o : Over) (c : After-late_arrival-late o)
+    → arrival_in c.late_arrival-late.result ≡ late_arrival (state_of c.args.state) (call_in c.judge-judged.result.arrival c.judge-judged.result.request)
+late_is o c =
+    late_told (state_of c.args.state) (call_in c.judge-judged.result.arrival c.judge-judged.result.request) c.swaps-swapping.ensures c.late_arrival-late.ensures
+
+pub deliver-first-requires : goal.deliver-first-requires
+deliver-first-requires o c = can_deliver _ _ _ (accepted o (goal.at.deliver-first-requires o c).After-swaps-swapping)
+
+pub arrive-arrived-requires : goal.arrive-arrived-requires
+arrive-arrived-requires o c = can_arrive _ _ _ (accepted o (goal.at.arrive-arrived-requires o c).After-swaps-swapping) c.deliver-first.ensures.0
+
+pub ask-asked-requires : goal.ask-asked-requires
+ask-asked-requires o c =
+    can_ask _ _ _ (accepted o (goal.at.ask-asked-requires o c).After-swaps-swapping) c.deliver-first.ensures.0 (early-is o (goal.at.ask-asked-requires o c).After-early_arrival-early) c.arrive-arrived.ensures
+    c.owes_request-owing.result (owing_told (accepted o (goal.at.ask-asked-requires o c).After-swaps-swapping) c.deliver-first.ensures.0 (early-is o (goal.at.ask-asked-requires o c).After-early_arrival-early) c.arrive-arrived.ensures c.owes_request-owing.ensures)
+
+pub arrive-filled-requires : goal.arrive-filled-requires
+arrive-filled-requires o c =
+    can_arrive_late _ _ _ (accepted o (goal.at.arrive-filled-requires o c).After-swaps-swapping) c.deliver-first.ensures.0 (early-is o (goal.at.arrive-filled-requires o c).After-early_arrival-early) c.arrive-arrived.ensures
+    c.ask-asked.ensures
+
+pub write-wrote-requires : goal.write-wrote-requires
+write-wrote-requires o c =
+    can_write _ _ _ (accepted o (goal.at.write-wrote-requires o c).After-swaps-swapping) c.deliver-first.ensures.0 (early-is o (goal.at.write-wrote-requires o c).After-early_arrival-early) c.arrive-arrived.ensures c.ask-asked.ensures
+    (late_is o (goal.at.write-wrote-requires o c).After-late_arrival-late) c.arrive-filled.ensures (write_told (accepted o (goal.at.write-wrote-requires o c).After-swaps-swapping) c.deliver-first.ensures.0 (early-is o (goal.at.write-wrote-requires o c).After-early_arrival-early) c.arrive-arrived.ensures c.ask-asked.ensures (late_is o (goal.at.write-wrote-requires o c).After-late_arrival-late) c.arrive-filled.ensures c.to_write-written.ensures)
+
+pub read-refilled-requires : goal.read-refilled-requires
+read-refilled-requires o c =
+    can_read _ _ _ (accepted o (goal.at.read-refilled-requires o c).After-swaps-swapping) c.deliver-first.ensures.0 (early-is o (goal.at.read-refilled-requires o c).After-early_arrival-early) c.arrive-arrived.ensures c.ask-asked.ensures
+    (late_is o (goal.at.read-refilled-requires o c).After-late_arrival-late) c.arrive-filled.ensures (write_told (accepted o (goal.at.read-refilled-requires o c).After-swaps-swapping) c.deliver-first.ensures.0 (early-is o (goal.at.read-refilled-requires o c).After-early_arrival-early) c.arrive-arrived.ensures c.ask-asked.ensures (late_is o (goal.at.read-refilled-requires o c).After-late_arrival-late) c.arrive-filled.ensures c.to_write-written.ensures) c.write-wrote.ensures.0 c.write-wrote.ensures.1 (read_told (accepted o (goal.at.read-refilled-requires o c).After-swaps-swapping) c.deliver-first.ensures.0 (early-is o (goal.at.read-refilled-requires o c).After-early_arrival-early) c.arrive-arrived.ensures c.ask-asked.ensures (late_is o (goal.at.read-refilled-requires o c).After-late_arrival-late) c.arrive-filled.ensures c.to_write-written.ensures c.write-wrote.ensures.0 c.write-wrote.ensures.1 c.to_read-refill.ensures)
+
+pub turn-requires : goal.turn-requires
+turn-requires o c =
+    can_turn _ _ _ (accepted o (goal.at.turn-requires o c).After-swaps-swapping) c.deliver-first.ensures.0 (early-is o (goal.at.turn-requires o c).After-early_arrival-early) c.arrive-arrived.ensures c.ask-asked.ensures
+    (late_is o (goal.at.turn-requires o c).After-late_arrival-late) c.arrive-filled.ensures (write_told (accepted o (goal.at.turn-requires o c).After-swaps-swapping) c.deliver-first.ensures.0 (early-is o (goal.at.turn-requires o c).After-early_arrival-early) c.arrive-arrived.ensures c.ask-asked.ensures (late_is o (goal.at.turn-requires o c).After-late_arrival-late) c.arrive-filled.ensures c.to_write-written.ensures) c.write-wrote.ensures.0 c.write-wrote.ensures.1 (read_told (accepted o (goal.at.turn-requires o c).After-swaps-swapping) c.deliver-first.ensures.0 (early-is o (goal.at.turn-requires o c).After-early_arrival-early) c.arrive-arrived.ensures c.ask-asked.ensures (late_is o (goal.at.turn-requires o c).After-late_arrival-late) c.arrive-filled.ensures c.to_write-written.ensures c.write-wrote.ensures.0 c.write-wrote.ensures.1 c.to_read-refill.ensures)
+    c.read-refilled.ensures

@@ -15,7 +15,7 @@ use scripts::Reading;
 
 // A command as numbers: its code and its operands in the table's order, 0 for each that it does not have.
 #[repr(C)]
-#[derive(Drop)]
+#[derive(Clone, Copy)]
 pub struct Numbers {
     pub code: u16,
     pub one: u16,

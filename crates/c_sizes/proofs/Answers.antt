@@ -31,11 +31,11 @@ chosen_memories : (t : Bool) (m : Memory) → or_none (choose t (some m) none) �
 chosen_memories true m = refl
 chosen_memories false m = refl
 
-pub block_is_lem : {rate grade : ℕ} {r answer : Sizing} → SizingSays rate grade r → r ≡ answer
+pub block_is : {rate grade : ℕ} {r answer : Sizing} → SizingSays rate grade r → r ≡ answer
     → or_zero (block_in answer) ≡ block_or_none rate grade
-block_is_lem {rate} {grade} {r} {answer} says is =
+block_is {rate} {grade} {r} {answer} says is =
     sym (ap (λ (x : Sizing). or_zero (block_in x)) is)
-    ∙ ap or_zero says.block_is_lem
+    ∙ ap or_zero says.block_is
     ∙ chosen_block (eqb (sizing_number rate grade) 0) (block_for rate grade)
 
 pub memories_are : {q b k : ℕ} {r answer : Derived} → DerivedSays q b k r → r ≡ answer

@@ -349,8 +349,9 @@ pub extern "C" fn gel_judge<'a>(
     call: u64,
     store_bytes: usize,
 ) -> Judgement
-    requires { Long (given tail head cells firsts stored) }
-    ensures { JudgeLentSays (state_in (regs_in regs.now) (found tail head cells firsts stored))
+    requires { Long (arrays tail.now head.now cells.now firsts.now stored.now) }
+    ensures { JudgeLentSays (state_in (regs_in regs.now)
+        (arrays tail.now head.now cells.now firsts.now stored.now))
         store_bytes (call_of call) result }
 {
     let now = layout::regs_in(regs);

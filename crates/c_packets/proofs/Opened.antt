@@ -1,13 +1,11 @@
 -- A record with 0 at every place is the fresh one, since each list has as many lengths as its count says, and it keeps
 -- its rules wherever there is a queue.
 use mathlib.Core.Path.{◌≡◌, refl, ap, ◌∙◌, fun_ext}
-use mathlib.Core.Bool.{Bool}
 use mathlib.Core.List.{List, []}
 use Prim.Native.Nat.{ℕ, zero, suc}
 use lib.ListN.{get_or, replicate}
-use Rattle.model.specs.Basics.{tabulate}
 use Rattle.layout.specs.Lengths.{queue_places}
-use Rattle.packets.specs.Packets.{most_listed, PacketRecord, fresh_record, record_keeps}
+use Rattle.packets.specs.Packets.{fresh_record, record_keeps}
 use Rattle.packets.proofs.Slots.{record-holds, fresh-record_keeps}
 use Rattle.packet_layout.specs.Lengths.{length_places, packet_reg_places}
 use Rattle.packet_layout.specs.Views.{list_in, packet_regs_in, record_in}

@@ -1,8 +1,8 @@
 -- A slot of the packet layer of a state and a record of which 3 and 2 are judged: stopped whatever is asked, or in place.
-use mathlib.Core.Path.{◌≡◌, refl, ap, sym, ◌∙◌, subst}
+use mathlib.Core.Path.{◌≡◌, refl, ap, sym, ◌∙◌}
 use mathlib.Core.Bool.{Bool, true, false, ◌&&◌, not}
 use mathlib.Core.List.{List, [], ◌∷◌}
-use Prim.Native.Nat.{ℕ, zero, suc, ◌≤◌}
+use Prim.Native.Nat.{ℕ, zero, suc}
 use native.Mathlib.Omega.{arith}
 use lib.Dec.{eqb, ltb}
 use lib.ListN.{length, drop}
@@ -13,21 +13,18 @@ use Rattle.model.specs.State.{State, keeps}
 use Rattle.model.specs.Slot as model
 use Rattle.model.specs.Slot.{number_alone}
 use Rattle.model.proofs.basics.Tests.{by_test}
-use Rattle.model.proofs.one_slot.Rules.{keeps-facts}
 use Rattle.packets.specs.Packets.{PacketRecord, record_keeps, PacketCall, packet_refusals, packet_refusal}
 use Rattle.layout.specs.Calls.{reply_in}
 use Rattle.layout.specs.Counts.{ByQueue}
-use Rattle.layout.specs.Lengths.{queue_places}
 use Rattle.layout.specs.Views.{Arrays, Long, sizes_in, state_in}
 use Rattle.layout.specs.declared.Regs.{Regs}
 use Rattle.layout.specs.declared.Reply.{Reply}
-use Rattle.layout.proofs.Ranges.{in_limits}
 use Rattle.packet_layout.specs.declared.PacketRegs.{PacketRegs}
 use Rattle.packet_layout.specs.declared.PacketReply.{PacketReply}
 use Rattle.packet_layout.specs.Views.{packet_regs_in, record_in, ListsLong}
 use Rattle.slot_in_place.specs.Says.{Ready}
 use Rattle.slot_checked.specs.Says.{CountsSay, judged_number}
-use Rattle.slot_checked.proofs.Judging.{number_broken, judged_state}
+use Rattle.slot_checked.proofs.Judging.{judged_state}
 use Rattle.slot_checked.proofs.Clearing.{ready_counted, leaves_same, leaves_ready, judged_lent}
 use Rattle.packet_in_place.specs.Says.{RecordArrays, record_of, RecordReady, PacketAdvanceSays}
 use Rattle.packet_in_place.proofs.Composed.{first_stays, stop_is}
@@ -76,14 +73,6 @@ module _ {regs : Regs} (m : Arrays) (store : List ℕ) (p : RecordArrays) {befor
 
   here : (n ≡ judged_number regs m store) × CountsSay (state_in regs m) (state_in regs m) counts counts'
   here = judged_lent read-in m store says
-
-  -- A state that keeps the rules has few queues.
-  pub few_queues : (n ≡ 3 → ⊥) → before.queues ≤ queue_places
-  few_queues f =
-      subst (λ (g : Regs). g.queues ≤ queue_places) (sym read-in)
-      (by_test (keeps paper x)
-      (λ t. (in_limits regs (keeps-facts paper x t).sizes-ok).q_high)
-      (λ t. absurd (f (here.0 ∙ number_broken (keeps paper x) (sizes_in regs) (length store) t))))
 
   module _ {packet : PacketRegs} (record-in : packet ≡ packet_regs_in p.regs) {k : ℕ}
       (judged : k ≡ with_record n (record_keeps before.queues (record_in packet p.lengths p.listed))) where

@@ -1,6 +1,6 @@
 -- The layer's own refusals by the counts, the slot of the byte and the byte request, and the record's part of it are
 -- the model's slot of the layer: `stopped`, `buffer_stopped` and `composed`, by where the slot ends.
-use mathlib.Core.Path.{◌≡◌, refl, ap, sym, ◌∙◌, subst}
+use mathlib.Core.Path.{◌≡◌, refl, ap, sym, ◌∙◌}
 use mathlib.Core.Bool.{Bool, true, false, ◌&&◌, not}
 use mathlib.Core.List.{List, [], ◌∷◌, ◌++◌}
 use mathlib.Core.Option.{Option, some, none}
@@ -29,7 +29,8 @@ use Rattle.layout.specs.Figures.{Figures, figures_in}
 use Rattle.layout.specs.Views.{Arrays, sizes_in, state_in}
 use Rattle.layout.specs.declared.Regs.{Regs}
 use Rattle.layout.specs.declared.Reply.{Reply}
-use Rattle.packet_layout.specs.Views.{packet_regs_in, QueueFits}
+use Rattle.packet_layout.specs.Views.{packet_regs_in, incoming_of, QueueFits}
+use Rattle.packet_layout.specs.declared.PacketRegs.{PacketRegs}
 use Rattle.packet_record.specs.Says.{TurnFacts}
 use Rattle.packet_refusals.specs.Says.{packet_number}
 use Rattle.packet_refusals.proofs.Paper.{own_refusals, number_as_paper}
@@ -101,6 +102,19 @@ module _ {regs : Regs} {m : Arrays} {counts : ByQueue} {store : List ℕ} (ready
       ∙ ap (λ (f : Figures). packet_number f (counts_in p.listed) rec.incoming call.arrival call.request)
       (standing.figures_are ready)
       ∙ number_as_paper x (packet_regs_in p.regs) p.lengths p.listed call
+
+  -- The same where registers and packet registers were read first.
+  pub judged_by : {g : Regs} {k : PacketRegs} {n : ℕ}
+      → n ≡ packet_number (figures_in g (by_queue counts.tails [] []) m.stored) (counts_in p.listed) (incoming_of k)
+      call.arrival call.request
+      → g ≡ regs → k ≡ packet_regs_in p.regs → n ≡ first_refusal own
+  judged_by {g} {k} e read record-read =
+      e
+      ∙ ap (λ (h : Regs). packet_number (figures_in h (by_queue counts.tails [] []) m.stored) (counts_in p.listed)
+      (incoming_of k) call.arrival call.request) read
+      ∙ ap (λ (j : PacketRegs). packet_number (figures_in regs (by_queue counts.tails [] []) m.stored)
+      (counts_in p.listed) (incoming_of j) call.arrival call.request) record-read
+      ∙ judged
 
   refusal_is : packet_refusal paper x store rec call ≡ first_refusal (own ++ buffer_number ∷ [])
   refusal_is =

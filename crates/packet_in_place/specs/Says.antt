@@ -8,7 +8,6 @@ use Rattle.layout.specs.declared.Regs.{Regs}
 use Rattle.layout.specs.Views.{Arrays, state_in}
 use Rattle.packet_layout.specs.declared.PacketReply.{PacketReply}
 use Rattle.packet_layout.specs.Views.{packet_regs_in, record_in, ListsLong}
-use Rattle.slot_in_place.specs.declared.Advanced.{Advanced}
 use Rattle.slot_in_place.specs.Says.{answer_in}
 
 -- The arrays of a record: its registers, its lengths, how many of them each list has.

@@ -1,7 +1,7 @@
 -- The packet layer's record as registers and two arrays hold it. Every register and every array is read as some record,
 -- so that the representation needs no rule of its own: a list has as many lengths as its count says, so that a count over
 -- 32 breaks the request's own rule, whatever lies behind it.
-use Rattle.std.specs.Prelude.{◌≡◌, Bool, not, List, ℕ, ◌+◌, ◌*◌, ◌<◌, eqb, length, get_or}
+use Rattle.std.specs.Prelude.{◌≡◌, not, List, ℕ, ◌+◌, ◌*◌, ◌<◌, eqb, length, get_or}
 use Rattle.std.proofs.Math.Option.{Option, some, none}
 use Rattle.model.specs.Basics.{choose, tabulate}
 use Rattle.model.specs.State.{Byte}

@@ -10,7 +10,7 @@ ghost use Rattle.packet_layout.specs.Views.{packet_regs_in, incoming_of, record_
 use layout::{Arrival, QUEUE_PLACES, Reply, Request};
 
 // What arrives of a packet: its start with queue, length and first byte, or a next byte, or nothing.
-#[derive(Drop)]
+#[derive(Clone, Copy)]
 pub enum PacketArrival {
     Starts(u16, u16, u8),
     Continues(u8),
@@ -18,7 +18,7 @@ pub enum PacketArrival {
 }
 
 // The queue that a packet is requested of, or none.
-#[derive(Drop)]
+#[derive(Clone, Copy)]
 pub enum PacketRequest {
     AsksPacket(u16),
     NoPacketRequest,
@@ -26,7 +26,7 @@ pub enum PacketRequest {
 
 // What a slot of the layer tells: what the buffer's slot does, and the packet request's own number, 7 where it was
 // dropped, or 0.
-#[derive(Drop)]
+#[derive(Clone, Copy)]
 pub struct PacketReply {
     pub reply: Reply,
     pub packet_number: u8,
@@ -48,7 +48,7 @@ pub type ListedArray = [u8; QUEUE_PLACES];
 // All of a record but its lists: whether a packet comes in, its queue, its length and how many of its bytes are in; the
 // queue of the packet last asked for, and how many byte requests of it are left. Where none comes in, the three numbers of
 // it are no part of the record.
-#[derive(Drop)]
+#[derive(Clone, Copy)]
 pub struct PacketRegs {
     pub comes: bool,
     pub queue: u16,

@@ -1,7 +1,7 @@
 -- The parts in which the code judges a record are the model's rules: the first that fails decides, and where all before
 -- it hold the last does. A list that is too long decides before its lengths are read.
-use mathlib.Core.Path.{◌≡◌, refl, ap, sym, ◌∙◌}
-use mathlib.Core.Bool.{Bool, true, false, and_true}
+use mathlib.Core.Path.{◌≡◌, ap, sym, ◌∙◌}
+use mathlib.Core.Bool.{Bool, true, false, and-true}
 use mathlib.Core.List.{List}
 use mathlib.Core.Option.{some}
 use Prim.Native.Nat.{ℕ, ◌+◌, ◌*◌, ◌≤◌, ◌<◌}
@@ -82,7 +82,7 @@ module _ (Q q n i : ℕ) where
     coming-wrong h = rw (lt-ltb q Q below, length-not n h)
 
     pub coming-decided : LengthOk n → ltb i n ≡ judged
-    coming-decided h = rw (lt-ltb q Q below, length-holds n h) (sym (and_true (ltb i n)))
+    coming-decided h = rw (lt-ltb q Q below, length-holds n h) (sym (and-true (ltb i n)))
 
 -- The whole record.
 module _ (Q : ℕ) (r : PacketRecord) where
@@ -101,4 +101,4 @@ module _ (Q : ℕ) (r : PacketRecord) where
   pub lists_decide : r.asked < Q → r.left ≤ longest_packet → coming_ok Q r.incoming ≡ true
       → all_below Q (list_ok r) ≡ record_keeps Q r
   lists_decide a l e =
-      rw (e, le-leb r.left longest_packet l, lt-ltb r.asked Q a) (sym (and_true (all_below Q (list_ok r))))
+      rw (e, le-leb r.left longest_packet l, lt-ltb r.asked Q a) (sym (and-true (all_below Q (list_ok r))))

@@ -1,6 +1,6 @@
 -- The packet layer's refusals by figures are the request's: with the figures of a state and of a record they are the
 -- five that `packet_refusals` puts between 2 and the buffer's own. `number_as_paper` says it.
-use mathlib.Core.Path.{◌≡◌, refl, ap, sym, ◌∙◌}
+use mathlib.Core.Path.{◌≡◌, refl, ap, sym}
 use mathlib.Core.Bool.{true}
 use mathlib.Core.List.{List, [], ◌∷◌}
 use mathlib.Core.Option.{Option, some, none}

@@ -223,11 +223,11 @@ pub record_kept : (design : Design) (x : State) (store : List ℕ) (r : PacketRe
     → 1 ≤ design.cell_count x.sizes → keeps design x ≡ true → record_keeps x.sizes.Q r ≡ true
     → packet_refusal design x store r call ≡ 0
     → record_keeps x.sizes.Q (packet_slot design x store r call).packets ≡ true
-record_kept design x store r call cells_ok keeps-rules record_keeps e =
+record_kept design x store r call cells_ok keeps-rules kept_record e =
     ap (λ (a : PacketAnswer). record_keeps x.sizes.Q a.packets) (packet_accepts design x store r call e)
     ∙ record-holds x.sizes.Q (packet_accept design x store r call).packets
     (record-after-kept x.sizes.Q r call reply.arrival_number reply.request_number
-    (record-facts x.sizes.Q r record_keeps)
+    (record-facts x.sizes.Q r kept_record)
     (accepted-fits design x store r call (packet_accepted design x store r call e)))
   where
     reply : Reply

@@ -100,7 +100,7 @@ pub chain_runs : (limits : Limits) (s : Sizes) (n : ℕ) {x : State} {store : Li
     {steps : List PacketStep} → PacketChain (full limits) x store r steps
     → (g : Where) → FindsOrder limits s n x store r g → Runs limits s n x store r g steps
 chain_runs limits s n lists.no_slot g h = run_ends
-chain_runs limits s n (lists.packet_slot_lem {x = x} {store = store} {r = r} {a = a} {steps = steps} call e c) g h =
+chain_runs limits s n (lists.packets_slot {x = x} {store = store} {r = r} {a = a} {steps = steps} call e c) g h =
     go a (subst (StoppedOrAccepted (full limits) x store r call) (sym e) (packet_outcome (full limits) x store r call))
     (λ g' k. chain_runs limits s n c g' k)
   where

@@ -1,31 +1,30 @@
 -- The sentences of request 2.7 of one slot: each number comes where its condition holds and none before it does, since
 -- a slot answers its first refusal; an accepted slot is what `packet_accept` says. `packets_say` has them all.
 use mathlib.Core.Path.{◌≡◌, refl, ap, sym, ◌∙◌, subst}
-use mathlib.Core.Bool.{Bool, true, false, ◌&&◌, not}
-use mathlib.Core.List.{List, [], ◌∷◌, ◌++◌, append-nil}
+use mathlib.Core.Bool.{Bool, true, false, not}
+use mathlib.Core.List.{List, [], ◌∷◌, append-nil}
 use mathlib.Core.Option.{Option, some, none}
-use Prim.Native.Nat.{ℕ, zero, suc, ◌+◌, ◌-◌, ◌*◌, ◌<◌, ◌≤◌}
+use Prim.Native.Nat.{ℕ, zero, suc, ◌+◌, ◌-◌, ◌<◌, ◌≤◌}
 use native.Mathlib.Omega.{arith}
-use lib.Dec.{eqb, ltb, leb}
-use lib.ListN.{length, drop, get_or}
-use borrow.Author.Tests.{eqb-true, eqb-false, leb-true, leb-false, ltb-true, le-ltb, lt-ltb, le-leb, lt-leb, ne_eqb}
-use Rattle.model.specs.Basics.{choose, All, all_true, when, first_refusal}
+use lib.Dec.{eqb, ltb}
+use lib.ListN.{length}
+use borrow.Author.Tests.{eqb-true, le-ltb, lt-ltb, le-leb, lt-leb, ne_eqb}
+use Rattle.model.specs.Basics.{All, when, first_refusal}
 use Rattle.model.specs.Sizes.{Design, store_bytes}
-use Rattle.model.specs.State.{byte, State, tail_bytes, blocks, keeps}
+use Rattle.model.specs.State.{State, keeps}
 use Rattle.model.specs.Slot.{arrival_unknown, request_unknown, Answer, slot}
-use Rattle.model.specs.Lists.{asks}
-use Rattle.packets.specs.Packets.{longest_packet, most_listed, Coming, coming, PacketRecord, length_ok, coming_to}
+use Rattle.packets.specs.Packets.{most_listed, Coming, coming, PacketRecord, length_ok, coming_to}
 use Rattle.packets.specs.Packets.{record_keeps, PacketArrival, start, next, PacketCall, byte_in, byte_call}
 use Rattle.packets.specs.Packets.{length_wrong}
-use Rattle.packets.specs.Packets.{comes, no_place, free_store, no_room, packet_refusals, packet_refusal, packet_drops}
-use Rattle.packets.specs.Packets.{packet_taken, grown, is_whole, entering, incoming_after, left_after, record_after}
+use Rattle.packets.specs.Packets.{comes, no_place, free_store, no_room, packet_refusal, packet_drops}
+use Rattle.packets.specs.Packets.{packet_taken, incoming_after, left_after, record_after}
 use Rattle.packets.specs.Packets.{PacketAnswer}
 use Rattle.packets.specs.Packets.{packet_accept, packet_stop, packet_slot}
-use Rattle.packets.specs.Sentences.{InRange, RecordStands, MayComeIn, no_byte, first_byte, next_byte_lem, packet_call}
+use Rattle.packets.specs.Sentences.{InRange, RecordStands, MayComeIn, no_byte, first_byte, a_next_byte, packet_call}
 use Rattle.packets.specs.Sentences.{answered, Stands, StopsInOrder, HandsOn, AsksPacket, list_left, ListsLeft}
 use Rattle.packets.specs.Sentences.{Enters}
 use Rattle.packets.specs.Sentences.{ComesIn, RunsOn, PacketsSay}
-use Rattle.model.proofs.basics.Tests.{by_test, eqb_same, none_not_some, some_inj, true_not_false, and_both}
+use Rattle.model.proofs.basics.Tests.{by_test, eqb_same, and_both}
 use Rattle.packets.proofs.Slots.{LengthOk, RecordKeeps, ComingKeeps, length-holds, record-facts, record-holds}
 use Rattle.packets.proofs.Slots.{packet_outcome, packet_accepted, packet_accepts, packet_refusal_told}
 use Rattle.packets.proofs.Slots.{PacketAccepted, StoppedOrAccepted, was_stopped, was_accepted}
@@ -151,7 +150,7 @@ module _ (design : Design) (x : State) (store : List ℕ) (r : PacketRecord) whe
         lt-leb 32 (length (r.lengths q)) f,
         le-ltb (free_store x q) n (omega (arith, g)),
       )
-  may_come s request (next_byte_lem c v e) =
+  may_come s request (a_next_byte c v e) =
       rw (e, lt-leb x.sizes.Q c.queue ((record_stands x.sizes.Q r s.record_keeps).coming_known c e))
 
   stops_in_order : StopsInOrder design x store r

@@ -17,7 +17,7 @@ use Rattle.model.specs.State.{Byte, State, fresh}
 use Rattle.model.specs.Lists.{Step, accepted, deliveries, request_at}
 use Rattle.model.specs.Ideal.{Ideal}
 use Rattle.model.specs.Demand.{CachesHold, NoMiss, RefusedSilent, FixedDelay, ListMeets}
-use Rattle.packets.specs.Packets.{PacketRecord, fresh_record, PacketCall}
+use Rattle.packets.specs.Packets.{packet_slot, PacketRecord, fresh_record, PacketCall}
 use Rattle.packets.specs.PacketLists.{PacketStep, packet_run, PacketChain, accepted_packets, byte_steps}
 use Rattle.packets.specs.PacketLists.{packet_request_at}
 use Rattle.packets.specs.PacketLists as lists
@@ -173,7 +173,8 @@ packets_meet limits s store steps e c =
 run-chain : (limits : Limits) (x : State) (store : List ℕ) (r : PacketRecord) (calls : List PacketCall)
     → PacketChain (full limits) x store r (packet_run (full limits) x store r calls)
 run-chain limits x store r [] = lists.no_slot
-run-chain limits x store r (call ∷ calls) = lists.packet_slot_lem call refl (run-chain limits _ _ _ calls)
+run-chain limits x store r (call ∷ calls) = lists.packets_slot call refl
+    (let a = packet_slot (full limits) x store r call in run-chain limits a.answer.state a.answer.store a.packets calls)
 
 pub whole_packets : (limits : Limits) → WholePackets limits
 whole_packets limits = record {

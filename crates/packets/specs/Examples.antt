@@ -1,12 +1,12 @@
 -- Slots of the layer worked by hand, as one table with one theorem for all rows (`packet_examples_hold`): lists of
 -- slots, from a state and a record, each slot beside what it is to answer.
-use Rattle.std.specs.Prelude.{Bool, true, false, ◌&&◌, List, [], ◌∷◌, ℕ, zero, suc, eqb, length, get_or, replicate}
+use Rattle.std.specs.Prelude.{Bool, true, false, ◌&&◌, List, [], ◌∷◌, ℕ, eqb, get_or, replicate}
 use Rattle.std.proofs.Math.Option.{Option, some, none}
 use Rattle.model.specs.Basics.{all_true}
 use Rattle.model.specs.Sizes.{sizes, paper, store_bytes}
 use Rattle.model.specs.State.{Byte, byte, empty, owed, State, fresh}
 use Rattle.model.specs.Examples.{made◌phase◌tail◌head◌cells◌blocks◌}
-use Rattle.packets.specs.Packets.{Coming, coming, PacketRecord, fresh_record, PacketArrival, start, next}
+use Rattle.packets.specs.Packets.{Coming, coming, PacketRecord, fresh_record, start, next}
 use Rattle.packets.specs.Packets.{PacketCall, PacketAnswer, packet_slot}
 
 -- What a slot is to answer: it is accepted, and its packet request, if it has one, is taken, or gets 7; or it is

@@ -36,7 +36,7 @@ packet_run design x store r (call ∷ calls) =
 -- and the slots that they were: for whoever calls the code.
 pub data PacketChain (design : Design) : State → List ℕ → PacketRecord → List PacketStep → Type 0 where
   no_slot : {x : State} {store : List ℕ} {r : PacketRecord} → PacketChain design x store r []
-  packet_slot_lem : {x : State} {store : List ℕ} {r : PacketRecord} {a : PacketAnswer} {steps : List PacketStep}
+  packets_slot : {x : State} {store : List ℕ} {r : PacketRecord} {a : PacketAnswer} {steps : List PacketStep}
       (call : PacketCall)
       → a ≡ packet_slot design x store r call
       → PacketChain design a.answer.state a.answer.store a.packets steps

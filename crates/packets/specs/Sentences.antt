@@ -37,7 +37,7 @@ pub data MayComeIn (x : State) (r : PacketRecord) : Option PacketArrival → Typ
       → q < x.sizes.Q → InRange n → r.incoming ≡ none → length (r.lengths q) < 32
       → tail_bytes x q + x.sizes.b * blocks x q + n ≤ x.sizes.K * x.sizes.b
       → MayComeIn x r (some (start q n v))
-  next_byte_lem : (c : Coming) (v : ℕ) → r.incoming ≡ some c → MayComeIn x r (some (next v))
+  a_next_byte : (c : Coming) (v : ℕ) → r.incoming ≡ some c → MayComeIn x r (some (next v))
 
 -- A slot's call from its two halves, and the number that it answers.
 abbrev pub packet_call : Option PacketArrival → Option ℕ → PacketCall

@@ -1,4 +1,4 @@
-//! Links the library of the slot by value, `../target/staticlib/libby_value.a`, which this benchmark alone needs.
+//! Links the library of the slot by value, `../crates/by_value/out/libby_value.a`, which this benchmark alone needs.
 
 #[path = "../rust/link.rs"]
 mod link;

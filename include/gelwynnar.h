@@ -6,7 +6,7 @@
  *     gel_answer a = gel_buffer_slot(&buffer, gel_both(1, 'x', 0), store, sizeof store);
  *     if (a.number == 0 && a.delivers) printf("byte %d of queue %d\n", a.value, a.queue);
  *
- * Link with libgelwynnar.a (rt staticlib gelwynnar), on x86-64. What each function promises is its contract in
+ * Link with libgelwynnar.a (rt lib in crates/gelwynnar), on x86-64. What each function promises is its contract in
  * crates/gelwynnar/src, proved over the paper's own slot (crates/model/specs); this page says it in a sentence.
  *
  * Q queues, 1 to 64; b bytes to a block, 1 to 128; K blocks of slow store to a queue, 1 to 255; Q(b - 1) at most 2,016.
@@ -17,7 +17,7 @@
  * below); with any other number a call did nothing at all.
  *    1  sizes outside the limits                       8  the byte that is due is not in the head cache
  *    2  the store is under Q x K x b bytes             9  the arrival does not fit the tail cache
- *    3  the state, or a packet record, breaks a rule  10  the block to read does not fit the head cache
+ *    3  the state breaks a rule                       10  the block to read does not fit the head cache
  *    4  the arrival's queue is Q or more              11  no block for this line rate and memory grade
  *    5  the arrival's queue is full                   12  an unknown command
  *    6  the request's queue is Q or more              13  a command's operands are cut short
@@ -27,12 +27,6 @@
  *                                                     17  no header of a capture, or another than is read here
  *                                                     18  a record cut short, or of over 9,016 captured bytes
  *                                                     19  fewer than 8 queues for a capture
- *                                                     20  a packet's length is not 1 to 9,016, or a next byte comes
- *                                                         where no packet is coming in
- *                                                     21  at a packet's start, its list holds 32, or another packet
- *                                                         is still coming in
- *                                                     22  at a packet's start, its queue's free store is below its
- *                                                         length
  * 5 does not come to a slot that asks for the same queue and takes an older byte of it from the tail cache, which makes
  * room for the arrival. Where the byte that it asks for is in slow store or in the head cache, or would be the arriving
  * one, 5 comes. 7 is judged without an arrival that was dropped, so that both may come together. 4 and 6 look at the
@@ -173,9 +167,9 @@ typedef struct gel_stretch {
  * it are one slice; where the number is 0, the pointer may be NULL. No array and no slice overlaps another one: the
  * answers of a run do not go over its calls. Nothing is kept after the call.
  *
- * gel_slot, gel_arbiter_slot, gel_packet_slot, gel_run and gel_idle take whatever lies in the arrays, the counts by
- * queue too. Where the state keeps the rules, they leave the counts right, so that gel_step or gel_arbiter_step may
- * follow; where it breaks one, which is 3, as they came. */
+ * gel_slot, gel_arbiter_slot, gel_run and gel_idle take whatever lies in the arrays, the counts by queue too. Where the
+ * state keeps the rules, they leave the counts right, so that gel_step or gel_arbiter_step may follow; where it breaks
+ * one, which is 3, as they came. */
 
 /* A fresh buffer of Q queues, b bytes to a block, K blocks of slow store to a queue: 0; or 1, with nothing changed. */
 uint8_t gel_open(size_t queues, size_t block, size_t depth, size_t *regs, uint16_t *tail, uint16_t *head,
@@ -188,9 +182,9 @@ gel_answer gel_slot(size_t *regs, uint16_t *tail, uint16_t *head, uint32_t *cell
                     size_t store_bytes);
 
 /* The same slot, not judging 3 and 2, which is quicker. The caller owes two things: only this library has written the
- * arrays since gel_open answered 0, or since gel_slot, gel_arbiter_slot, gel_packet_slot, gel_run or gel_idle of a slot
- * or more answered neither 3 nor 2 (or they are a whole copy of such); and the store has Q x K x b bytes or more.
- * Without them the step is undefined. */
+ * arrays since gel_open answered 0, or since gel_slot, gel_arbiter_slot, gel_run or gel_idle of a slot or more answered
+ * neither 3 nor 2 (or they are a whole copy of such); and the store has Q x K x b bytes or more. Without them the step
+ * is undefined. */
 gel_answer gel_step(size_t *regs, uint16_t *tail, uint16_t *head, uint32_t *cells, uint8_t *firsts, uint8_t *stored,
                     uint16_t *tails, uint16_t *heads, uint16_t *owing, uint64_t call, uint8_t *store,
                     size_t store_bytes);
@@ -267,102 +261,6 @@ static inline gel_judgement gel_buffer_judge(const gel_buffer *g, uint64_t call,
 }
 static inline int32_t gel_buffer_margin(const gel_buffer *g, uint16_t queue) {
     return gel_margin(g->regs, g->head, g->cells, queue);
-}
-
-/* ---- Whole packets --------------------------------------------------------------------------------------------- */
-
-/* A layer over the slot, with a record of its own beside the buffer. A packet has 1 to 9,016 bytes. One comes in at a
- * time, at most a byte in a slot: its start brings queue, length and first byte, later slots a next byte each. When its
- * last byte is in, its length enters its queue's list, which has at most 32, and from the next slot on it may be asked
- * for. A packet request that is taken takes the oldest length out of its queue's list, and becomes one byte request in
- * each of as many following accepted slots, with no other request between. Then its bytes leave in as many successive
- * accepted slots, whole and in order, the first of them L + 1 accepted slots after the packet request; that is so from
- * a fresh buffer and record, where no slot went around the layer, and there no byte and no byte request is dropped.
- *
- *     static gel_packets packets;
- *     gel_packet_answer p;
- *     gel_packets_fresh(&packets);                           // beside a buffer that is fresh too
- *     p = gel_buffer_packet_slot(&buffer, &packets, gel_packet_start(0, 2, 'a'), store, sizeof store);
- *     p = gel_buffer_packet_slot(&buffer, &packets, gel_packet_next('b'), store, sizeof store);
- *     p = gel_buffer_packet_slot(&buffer, &packets, gel_packet_ask(0), store, sizeof store);
- *     if (p.slot.number == 0 && p.packet_number == 0) ...    // 'a' and 'b' are to leave */
-
-/* How long the arrays of a record are that have not a number of queues. */
-#define GEL_PACKET_REGS 6
-#define GEL_LENGTH_PLACES 2048
-
-/* The registers of a record, by their place in `packet_regs`: whether a packet is coming in, any number but 0 saying
- * that one is, its queue, its length and how many of its bytes are in; and the queue of the packet last asked for, with
- * how many of its byte requests are left to make. Where none is coming in, the next three do not count. */
-enum gel_packet_reg {
-    GEL_COMES,
-    GEL_COMING_QUEUE,
-    GEL_COMING_SIZE,
-    GEL_BYTES_IN,
-    GEL_PACKET_ASKED,
-    GEL_PACKET_LEFT
-};
-
-/* A record. It goes with one buffer: a place to come back to is a copy of both and of the store. */
-typedef struct gel_packets {
-    uint16_t packet_regs[GEL_PACKET_REGS];
-    uint16_t lengths[GEL_LENGTH_PLACES]; /* of each queue 32 places: its list from the first of them on, oldest first */
-    uint8_t listed[GEL_QUEUE_PLACES];    /* how many lengths its list has */
-} gel_packets;
-
-/* What a slot of the layer is asked: one word, what comes and what is asked joined by |. Bits 0-7 the value that comes,
- * 8-23 the queue of a start, 24 whether a byte comes, 25-40 the queue that a packet is asked of, 41 whether one is
- * asked, 42-57 the length of a start, 58 whether the byte is a start; the others are to be 0, though this version does
- * not look at them. Of a next byte queue and length are not looked at: it is of the packet coming in. */
-static inline uint64_t gel_packet_start(uint16_t queue, uint16_t length, uint8_t value) {
-    return (uint64_t)1 << 58 | (uint64_t)length << 42 | gel_arrive(queue, value);
-}
-static inline uint64_t gel_packet_next(uint8_t value) { return gel_arrive(0, value); }
-static inline uint64_t gel_packet_ask(uint16_t queue) { return gel_ask(queue); }
-
-/* What a slot of the layer answers: as the buffer's slot that it is, and the packet request's own number. */
-typedef struct gel_packet_answer {
-    gel_answer slot;
-    uint8_t packet_number; /* 7 where the packet request was dropped, and nothing but it; else 0 */
-} gel_packet_answer;
-
-/* A fresh record, in arrays that may hold anything: 0 at every place. */
-void gel_packets_open(uint16_t *packet_regs, uint16_t *lengths, uint8_t *listed);
-
-/* One slot of the layer, whatever lies in the arrays, in the record and in the store. 3 is judged of the state and then
- * of the record, which breaks a rule with a list over 32, or over 31 of the queue that a packet is coming in to; with a
- * listed length or that of a packet coming in not 1 to 9,016; with as many bytes in as that length or more; with over
- * 9,016 byte requests left; or with a queue that is Q or more, that of the packet last asked for always counted. Then
- * come 2, 4, 20, 21 and 22, as the slot begins and in this order, 6, of the packet request, and 8, 9 and 10. Free store
- * is K x b less the queue's tail bytes and b x its blocks. A slot that a number stops did not happen: the registers,
- * the five arrays of the state, the record's three and the store are as they came.
- * A packet request is dropped, which is a 7 of its own, where no whole packet of its queue stood before the slot, or
- * where this slot still makes a byte request of an earlier one. A byte or a byte request that is dropped (`dropped` of
- * the slot) is not counted in the record. */
-gel_packet_answer gel_packet_slot(size_t *regs, uint16_t *tail, uint16_t *head, uint32_t *cells, uint8_t *firsts,
-                                  uint8_t *stored, uint16_t *tails, uint16_t *heads, uint16_t *owing,
-                                  uint16_t *packet_regs, uint16_t *lengths, uint8_t *listed, uint64_t call,
-                                  uint8_t *store, size_t store_bytes);
-
-/* The same slot, not judging 3 and 2, which is quicker. The caller owes what he owes to gel_step, and the same of the
- * record: only this library has written it since gel_packets_open, or since gel_packet_slot answered neither 3 nor 2
- * (or it is a whole copy of such), and that beside buffers of one Q. */
-gel_packet_answer gel_packet_step(size_t *regs, uint16_t *tail, uint16_t *head, uint32_t *cells, uint8_t *firsts,
-                                  uint8_t *stored, uint16_t *tails, uint16_t *heads, uint16_t *owing,
-                                  uint16_t *packet_regs, uint16_t *lengths, uint8_t *listed, uint64_t call,
-                                  uint8_t *store, size_t store_bytes);
-
-/* The same over two objects. */
-static inline void gel_packets_fresh(gel_packets *p) { gel_packets_open(p->packet_regs, p->lengths, p->listed); }
-static inline gel_packet_answer gel_buffer_packet_slot(gel_buffer *g, gel_packets *p, uint64_t call, uint8_t *store,
-                                                       size_t store_bytes) {
-    return gel_packet_slot(g->regs, g->tail, g->head, g->cells, g->firsts, g->stored, g->tails, g->heads, g->owing,
-                           p->packet_regs, p->lengths, p->listed, call, store, store_bytes);
-}
-static inline gel_packet_answer gel_buffer_packet_step(gel_buffer *g, gel_packets *p, uint64_t call, uint8_t *store,
-                                                       size_t store_bytes) {
-    return gel_packet_step(g->regs, g->tail, g->head, g->cells, g->firsts, g->stored, g->tails, g->heads, g->owing,
-                           p->packet_regs, p->lengths, p->listed, call, store, store_bytes);
 }
 
 /* ---- Sizes ----------------------------------------------------------------------------------------------------- */

@@ -1,4 +1,4 @@
-//! Links the proved library, `../target/staticlib/libgelwynnar.a`.
+//! Links the proved library, `../crates/gelwynnar/out/libgelwynnar.a`.
 
 mod link;
 

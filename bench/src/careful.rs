@@ -6,10 +6,7 @@
 //! not touch. Refusals 8, 9 and 10 are not judged, since none comes from a fresh state; a debug build asserts it.
 
 mod head;
-mod packets;
 mod tail;
-
-pub use packets::Layer;
 
 use crate::model::{Model, Natural};
 use crate::words::{self, Arrival, Request};
@@ -38,7 +35,7 @@ struct Queue {
     read_next: u8,
 }
 
-pub static CAREFUL: Natural = Natural::of::<Buffer<false>, Buffer<true>, Layer>("careful natural Rust");
+pub static CAREFUL: Natural = Natural::of::<Buffer<false>, Buffer<true>>("careful natural Rust");
 
 /// With `ARBITER` it keeps what the arbiter looks at; a list that is all the caller's does without.
 pub struct Buffer<const ARBITER: bool> {

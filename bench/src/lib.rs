@@ -18,10 +18,6 @@ pub const TABLE_SIZES: [Sizes; 3] = [Sizes::new(4, 3, 20), Sizes::new(16, 8, 8),
 /// The most queues that a buffer may have.
 pub const MOST_QUEUES: usize = 64;
 
-/// A packet has at most so many bytes, and the list of a queue so many lengths (request 2.7).
-pub const LONGEST_PACKET: u16 = 9016;
-pub const MOST_LISTED: usize = 32;
-
 /// The sizes of a buffer: Q queues, b bytes to a block, K blocks of slow store to a queue.
 #[derive(Clone, Copy, Debug)]
 pub struct Sizes {
@@ -73,7 +69,7 @@ pub type RunThenIdle = fn(Sizes, &[u64], &mut Lent, usize) -> bool;
 /// What a run writes to: an answer word for each call, the slow store, and the high marks of the state that it
 /// leaves, the tail's first. A way whose answers are structs keeps them as they came, so that what the comparison makes
 /// of them is not in its time. Where the arbiter has slots of the list, the queue that it asked in each, and the last
-/// one asked of the state. Of a list of the packet layer each packet request's own number, and the record.
+/// one asked of the state.
 #[derive(Clone, PartialEq)]
 pub struct Lent {
     pub answers: Vec<u64>,
@@ -82,26 +78,6 @@ pub struct Lent {
     pub marks: [usize; 2],
     pub asked: Vec<Request>,
     pub last_asked: usize,
-    pub packet_numbers: Vec<u8>,
-    pub record: Option<Record>,
-}
-
-/// The record of the packet layer: the list of each queue, the packet coming in, the queue of the packet last asked for,
-/// and how many byte requests of it are left.
-#[derive(Clone, Debug, PartialEq)]
-pub struct Record {
-    pub lists: Vec<Vec<u16>>,
-    pub coming: Option<Coming>,
-    pub asked: u16,
-    pub left: u16,
-}
-
-/// The packet coming in.
-#[derive(Clone, Copy, Debug, PartialEq)]
-pub struct Coming {
-    pub queue: u16,
-    pub length: u16,
-    pub bytes_in: u16,
 }
 
 /// No answer has this number, and there is no such queue.
@@ -119,8 +95,6 @@ impl Lent {
             marks: [usize::MAX; 2],
             asked: vec![Some(UNASKED); calls],
             last_asked: usize::MAX,
-            packet_numbers: vec![UNTOLD; calls],
-            record: None,
         }
     }
 

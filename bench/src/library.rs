@@ -3,11 +3,10 @@
 //!
 //! Each way writes an answer for each call, a run as words, which are those of `words`, and leaves the high marks.
 
-use gelwynnar::{packet_reg, reg, Answer, ArbiterAnswer, Blocks, Cells, Counts, Head, PacketAnswer, Packets, Regs};
-use gelwynnar::{Stretch, Tail};
+use gelwynnar::{reg, Answer, ArbiterAnswer, Blocks, Cells, Counts, Head, Regs, Stretch, Tail};
 
 use crate::words::{is_arbiters, stopped, Request};
-use crate::{Coming, Lent, Record, Sizes, MOST_LISTED};
+use crate::{Lent, Sizes};
 
 /// One checked slot for each call.
 pub fn slots(sizes: Sizes, calls: &[u64], lent: &mut Lent) -> bool {
@@ -47,27 +46,6 @@ pub fn arbiter_steps(sizes: Sizes, calls: &[u64], lent: &mut Lent) -> bool {
         calls,
         lent,
     );
-    true
-}
-
-/// One checked slot of the packet layer for each call.
-pub fn packet_slots(sizes: Sizes, calls: &[u64], lent: &mut Lent) -> bool {
-    let Some(mut buffer) = Buffer::open(sizes) else { return false };
-    buffer.by_packets(Buffer::packet_slot, calls, lent);
-    true
-}
-
-/// The same by steps.
-pub fn packet_steps(sizes: Sizes, calls: &[u64], lent: &mut Lent) -> bool {
-    let Some(mut buffer) = Buffer::open(sizes) else { return false };
-    if lent.store.len() < sizes.store() {
-        return false;
-    }
-    // Safe: the store is long enough, and the record was made fresh for this buffer.
-    let step = |buffer: &mut Buffer, packets: &mut Packets, call, store: &mut [u8]| unsafe {
-        buffer.packet_step(packets, call, store)
-    };
-    buffer.by_packets(step, calls, lent);
     true
 }
 
@@ -161,22 +139,6 @@ impl Buffer {
         unsafe { gelwynnar::arbiter_step(self.arrays(), call, store) }
     }
 
-    /// One slot of the packet layer, with the record beside. Everything is judged.
-    pub fn packet_slot(&mut self, packets: &mut Packets, call: u64, store: &mut [u8]) -> PacketAnswer {
-        gelwynnar::packet_slot(self.arrays(), packets, call, store)
-    }
-
-    /// The same slot, with a store that is long enough.
-    ///
-    /// # Safety
-    ///
-    /// The store has Q × K × b bytes or more, and since the record was made fresh only the library has written it, beside
-    /// this buffer.
-    pub unsafe fn packet_step(&mut self, packets: &mut Packets, call: u64, store: &mut [u8]) -> PacketAnswer {
-        // Safe then, as `step` is.
-        unsafe { gelwynnar::packet_step(self.arrays(), packets, call, store) }
-    }
-
     /// Many slots, an answer word for each: 0, or the number that all of them answer.
     pub fn run(&mut self, calls: &[u64], answers: &mut [u64], store: &mut [u8]) -> u8 {
         assert_eq!(calls.len(), answers.len());
@@ -237,40 +199,6 @@ impl Buffer {
         }
         lent.marks = self.marks();
         lent.last_asked = self.last_asked();
-    }
-
-    /// The same with slots of the packet layer from a fresh record, each packet request's number, and the record.
-    fn by_packets(
-        &mut self,
-        slot: impl Fn(&mut Buffer, &mut Packets, u64, &mut [u8]) -> PacketAnswer,
-        calls: &[u64],
-        lent: &mut Lent,
-    ) {
-        assert_eq!([calls.len(); 2], [lent.told.len(), lent.packet_numbers.len()]);
-        let mut packets = Packets::fresh();
-        for ((&call, told), number) in calls.iter().zip(&mut lent.told).zip(&mut lent.packet_numbers) {
-            let answer = slot(self, &mut packets, call, &mut lent.store);
-            (*told, *number) = (answer.slot, answer.packet_number);
-        }
-        lent.marks = self.marks();
-        lent.record = Some(record_in(&packets, self.regs[reg::QUEUES]));
-    }
-}
-
-/// The record that the arrays hold, of so many queues.
-pub fn record_in(packets: &Packets, queues: usize) -> Record {
-    let Packets { regs, lengths, listed } = packets;
-    let list = |queue| lengths[queue * MOST_LISTED..][..listed[queue] as usize].to_vec();
-    let coming = Coming {
-        queue: regs[packet_reg::QUEUE],
-        length: regs[packet_reg::SIZE],
-        bytes_in: regs[packet_reg::BYTES_IN],
-    };
-    Record {
-        lists: (0..queues).map(list).collect(),
-        coming: (regs[packet_reg::COMES] != 0).then_some(coming),
-        asked: regs[packet_reg::ASKED],
-        left: regs[packet_reg::LEFT],
     }
 }
 

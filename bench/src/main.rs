@@ -9,7 +9,7 @@ use std::process::exit;
 
 use bench::careful::CAREFUL;
 use bench::natural::PLAIN;
-use bench::traffic::{prelude, ArbiterTraffic, PacketTraffic, Traffic};
+use bench::traffic::{prelude, ArbiterTraffic, Traffic};
 use bench::{by_value, library, Lent, Run, RunThenIdle, Sizes, TABLE_SIZES};
 use table::Table;
 use timing::best_times;
@@ -28,10 +28,6 @@ const IDLE_SLOTS: usize = 1_000_000;
 /// The arbiter chooses in the slots that are its own, and the others are steps.
 const ARBITER_WAY: (&str, Run) = ("arbiter step, lent arrays", library::arbiter_steps);
 const ARBITER_SLOTS: usize = 400_000;
-
-/// Every slot is one of the packet layer.
-const PACKET_WAY: (&str, Run) = ("packet step, lent arrays", library::packet_steps);
-const PACKET_SLOTS: usize = 400_000;
 
 const SEED: u64 = 12345;
 
@@ -68,14 +64,6 @@ fn main() {
             let lent = &lent(sizes, ARBITER_SLOTS);
             let times = best_times(ways, lent, |run, lent| run(sizes, calls, lent));
             table.row(sizes, traffic.name(), ARBITER_WAY.0, ARBITER_SLOTS, times);
-        }
-        for traffic in PacketTraffic::ALL {
-            let calls = &traffic.calls(sizes, PACKET_SLOTS, SEED);
-            let models = [PLAIN, CAREFUL].map(|model| (model.name, model.run_packets));
-            let ways = [models[0], models[1], PACKET_WAY];
-            let lent = &lent(sizes, PACKET_SLOTS);
-            let times = best_times(ways, lent, |run, lent| run(sizes, calls, lent));
-            table.row(sizes, traffic.name(), PACKET_WAY.0, PACKET_SLOTS, times);
         }
         let calls = &prelude(sizes);
         let models = [PLAIN, CAREFUL].map(|model| (model.name, model.run_then_idle));

@@ -3,8 +3,8 @@
 
 use std::hint::black_box;
 
-use crate::words::{halves, is_arbiters, packet_halves, stopped, Arrival, PacketByte, Request};
-use crate::{Lent, Record, Run, RunThenIdle, Sizes};
+use crate::words::{halves, is_arbiters, stopped, Arrival, Request};
+use crate::{Lent, Run, RunThenIdle, Sizes};
 
 /// A buffer in natural Rust.
 pub trait Model: Sized {
@@ -47,33 +47,6 @@ pub trait Model: Sized {
     }
 }
 
-/// A buffer with the packet layer over it (request 2.7), in natural Rust.
-pub trait PacketModel: Sized {
-    /// A fresh buffer with a fresh record, or none where the sizes are refused.
-    fn fresh(sizes: Sizes) -> Option<Self>;
-
-    /// One slot: its answer word and the packet request's own number, 7 or 0; or the number that stops it, and then
-    /// nothing has changed.
-    fn try_slot(
-        &mut self,
-        byte: Option<PacketByte>,
-        request: Request,
-        store: &mut [u8],
-    ) -> Result<(u64, u8), u8>;
-
-    fn record(&self) -> Record;
-
-    /// As those of a buffer.
-    fn marks(&self) -> [usize; 2];
-
-    /// The slot of a call, with an answer word also where it is stopped.
-    #[inline(always)]
-    fn slot(&mut self, call: u64, store: &mut [u8]) -> (u64, u8) {
-        let (byte, request) = packet_halves(call);
-        self.try_slot(byte, request, store).unwrap_or_else(|number| (stopped(number), 0))
-    }
-}
-
 /// The lists through a natural model. Each model has a static of it, so that they are compiled here and not where they
 /// are called, and its slot may become part of them. The parts of a slot are inlined always: the caller's slot and the
 /// arbiter's are each compiled as if there were no other.
@@ -85,21 +58,12 @@ pub struct Natural {
     pub run_then_idle: RunThenIdle,
     /// A list in which the arbiter chooses where a call says so.
     pub run_arbiter: Run,
-    /// A list of the packet layer.
-    pub run_packets: Run,
 }
 
 impl Natural {
-    /// By three models: of lists that are all the caller's, of those in which the arbiter has slots, and of those of the
-    /// packet layer.
-    pub const fn of<M: Model, A: Model, P: PacketModel>(name: &'static str) -> Natural {
-        Natural {
-            name,
-            run: run::<M>,
-            run_then_idle: run_then_idle::<M>,
-            run_arbiter: run_arbiter::<A>,
-            run_packets: run_packets::<P>,
-        }
+    /// By two models: of lists that are all the caller's, and of those in which the arbiter has slots.
+    pub const fn of<M: Model, A: Model>(name: &'static str) -> Natural {
+        Natural { name, run: run::<M>, run_then_idle: run_then_idle::<M>, run_arbiter: run_arbiter::<A> }
     }
 }
 
@@ -126,15 +90,5 @@ fn run_arbiter<M: Model>(sizes: Sizes, calls: &[u64], lent: &mut Lent) -> bool {
     }
     lent.marks = buffer.marks();
     lent.last_asked = buffer.last_asked();
-    true
-}
-
-fn run_packets<P: PacketModel>(sizes: Sizes, calls: &[u64], lent: &mut Lent) -> bool {
-    let Some(mut layer) = P::fresh(sizes) else { return false };
-    for ((&call, answer), number) in calls.iter().zip(&mut lent.answers).zip(&mut lent.packet_numbers) {
-        (*answer, *number) = layer.slot(call, &mut lent.store);
-    }
-    lent.marks = layer.marks();
-    lent.record = Some(layer.record());
     true
 }

@@ -1,10 +1,6 @@
 //! The slot as one would first write it in Rust, with nothing proved: a `VecDeque` for each queue's tail and
 //! head, another for the lookahead, and counts kept up to date. `careful` is the one written to be fast.
 
-mod packets;
-
-pub use packets::Layer;
-
 use std::collections::VecDeque;
 
 use crate::model::{Model, Natural};
@@ -32,7 +28,7 @@ struct Queue {
     blocks: usize,
 }
 
-pub static PLAIN: Natural = Natural::of::<Buffer, Buffer, Layer>("plain natural Rust");
+pub static PLAIN: Natural = Natural::of::<Buffer, Buffer>("plain natural Rust");
 
 pub struct Buffer {
     sizes: Sizes,
@@ -193,13 +189,8 @@ impl Model for Buffer {
 
 impl Queue {
     /// Whether its tail bytes and blocks fill its K blocks.
-    fn is_full(&self, sizes: Sizes) -> bool {
-        self.room(sizes) == 0
-    }
-
-    /// Bytes that may come before they do.
-    fn room(&self, Sizes { block, depth, .. }: Sizes) -> usize {
-        depth * block - self.tail.len() - block * self.blocks
+    fn is_full(&self, Sizes { block, depth, .. }: Sizes) -> bool {
+        self.tail.len() + block * self.blocks == depth * block
     }
 
     /// Whether a byte in the head or in the slow store is left to ask for, so that a request would be Owed.

@@ -1,10 +1,8 @@
 //! Lists of calls, one word for each slot, the same list for the same seed.
 
 mod arbiter;
-mod packets;
 
 pub use arbiter::ArbiterTraffic;
-pub use packets::PacketTraffic;
 
 use crate::words::call;
 use crate::Sizes;

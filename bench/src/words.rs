@@ -35,38 +35,6 @@ pub fn is_arbiters(call: u64) -> bool {
     call & ARBITERS != 0
 }
 
-/// What of a packet comes in a slot (request 2.7).
-#[derive(Clone, Copy, Debug, PartialEq)]
-pub enum PacketByte {
-    /// With the packet's queue, its length and its first byte.
-    Start(u16, u16, u8),
-    /// Of the packet that is coming in.
-    Next(u8),
-}
-
-/// A call of the packet layer as one word: as a call, with the queue of a start, and bits 42 to 57 the length of a start,
-/// 58 whether the byte is one. The request is of a packet.
-pub fn packet_call(byte: Option<PacketByte>, request: Request) -> u64 {
-    let request = call(None, request);
-    match byte {
-        None => request,
-        Some(PacketByte::Start(queue, length, value)) => {
-            1 << 58 | (length as u64) << 42 | call(Some((queue, value)), None) | request
-        }
-        Some(PacketByte::Next(value)) => call(Some((0, value)), None) | request,
-    }
-}
-
-/// What comes in a call of the packet layer, and the packet request.
-pub fn packet_halves(call: u64) -> (Option<PacketByte>, Request) {
-    let (arrival, request) = halves(call);
-    let byte = arrival.map(|(queue, value)| match call >> 58 & 1 {
-        1 => PacketByte::Start(queue, (call >> 42) as u16, value),
-        _ => PacketByte::Next(value),
-    });
-    (byte, request)
-}
-
 // An answer is the parts of it that there are: 0 where nothing left, nothing moved and nothing was dropped.
 
 /// Bits 0 to 7 the delivered value, 8 to 17 its queue, 18 that there is one.

@@ -1,16 +1,12 @@
-//! The proved library for Rust callers: what include/gelwynnar.h declares, safe to call but for `step`, `arbiter_step`
-//! and `packet_step`.
+//! The proved library for Rust callers: what include/gelwynnar.h declares, safe to call but for `step` and
+//! `arbiter_step`.
 //!
 //! Here is the buffer, in arrays that the caller lends; `sizes` has the sizing rule, `script` the scripts. The header
 //! says what each function promises and what the numbers and words are.
 
-mod packets;
 mod raw;
 pub mod script;
 pub mod sizes;
-
-pub use packets::{packet_reg, packet_slot, packet_step, Lengths, Listed, PacketAnswer, PacketRegs, Packets};
-pub use packets::{LENGTH_PLACES, MOST_LISTED, PACKET_REGS};
 
 /// The interface that the header describes; `version` tells the one that is linked.
 pub const VERSION: u32 = 5;
@@ -145,8 +141,8 @@ pub fn slot(lent: Lent, call: u64, store: &mut [u8]) -> Answer {
 ///
 /// # Safety
 ///
-/// Only the library has written the arrays since `open` answered 0, or since `slot`, `arbiter_slot`, `packet_slot`,
-/// `run` or `idle` of a slot or more answered neither 3 nor 2; and the store has Q × K × b bytes or more.
+/// Only the library has written the arrays since `open` answered 0, or since `slot`, `arbiter_slot`, `run` or `idle` of
+/// a slot or more answered neither 3 nor 2; and the store has Q × K × b bytes or more.
 #[inline]
 pub unsafe fn step(lent: Lent, call: u64, store: &mut [u8]) -> Answer {
     raw::gel_step(lent, call, store.as_mut_ptr(), store.len())

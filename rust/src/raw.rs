@@ -3,7 +3,6 @@
 use crate::script::{Fault, Numbers, Reading, Writing};
 use crate::sizes::Memories;
 use crate::{Answer, ArbiterAnswer, Blocks, Cells, Counts, Head, Judgement, Lent, Regs, Stretch, Tail};
-use crate::{Lengths, Listed, PacketAnswer, PacketRegs};
 
 extern "C" {
     pub fn gel_version() -> u32;
@@ -19,8 +18,6 @@ extern "C" {
         store_bytes: usize,
     ) -> Judgement;
     pub fn gel_margin(regs: &Regs, head: &Head, cells: &Cells, queue: u16) -> i32;
-
-    pub fn gel_packets_open(packet_regs: &mut PacketRegs, lengths: &mut Lengths, listed: &mut Listed);
 
     pub fn gel_memory_sizes(queues: usize, block: usize, depth: usize) -> Memories;
     pub fn gel_block_size(rate: usize, grade: usize) -> usize;
@@ -89,10 +86,6 @@ over_a_buffer! {
     fn gel_step(; call: u64, store: *mut u8, store_bytes: usize) -> Answer;
     fn gel_arbiter_slot(; call: u64, store: *mut u8, store_bytes: usize) -> ArbiterAnswer;
     fn gel_arbiter_step(; call: u64, store: *mut u8, store_bytes: usize) -> ArbiterAnswer;
-    fn gel_packet_slot(; packet_regs: &mut PacketRegs, lengths: &mut Lengths, listed: &mut Listed, call: u64,
-                       store: *mut u8, store_bytes: usize) -> PacketAnswer;
-    fn gel_packet_step(; packet_regs: &mut PacketRegs, lengths: &mut Lengths, listed: &mut Listed, call: u64,
-                       store: *mut u8, store_bytes: usize) -> PacketAnswer;
     fn gel_run(; calls: *const u64, calls_count: usize, answers: *mut u64, answers_count: usize,
                store: *mut u8, store_bytes: usize) -> u8;
     fn gel_idle(; slots: usize, store: *mut u8, store_bytes: usize) -> Stretch;

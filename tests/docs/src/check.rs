@@ -27,6 +27,8 @@ const LONGEST_ROW: usize = 220;
 const PROMISES: &str = "docs/PROMISES.md";
 const ARCHITECTURE: &str = "docs/ARCHITECTURE.md";
 const README: &str = "README.md";
+/// It says what things were called and what is gone, so that it names much that is not there.
+const PORT: &str = "docs/PORT.md";
 
 #[derive(Default)]
 pub struct Report {
@@ -50,7 +52,7 @@ pub fn check(tree: &Tree) -> Report {
         report.hold(tree.files.contains_key(document), document, 1, || "is not there".to_string());
     }
     for (path, text) in &tree.files {
-        if path == README || (path.starts_with("docs/") && path.ends_with(".md")) {
+        if path == README || (path.starts_with("docs/") && path.ends_with(".md") && path != PORT) {
             Checker { tree, document: path, report: &mut report }.document(text);
         }
     }
@@ -219,7 +221,7 @@ impl Checker<'_> {
         (count > 0).then_some(count)
     }
 
-    /// `rt check NAME` and the like, in code or in backquotes: the crate exists, and so do paths.
+    /// `rt must-fail NAME` and the like, in code or in backquotes: the crate exists, and so do paths.
     fn command_at(&mut self, tokens: &[Token], place: usize) {
         let line = tokens[place].line;
         let words: Vec<&str> = if tokens[place].is_span {
@@ -227,7 +229,7 @@ impl Checker<'_> {
         } else {
             tokens[place..].iter().take_while(|it| it.line == line).map(|it| it.text.as_str()).collect()
         };
-        if let ["rt", "check" | "dev" | "must-fail" | "staticlib", name, ..] = words[..] {
+        if let ["rt", "ci" | "must-fail", name, ..] = words[..] {
             self.hold(self.tree.has_crate(name), line, || format!("no such crate: {name}"));
         }
         if tokens[place].is_span && is_command(&words) {
@@ -402,11 +404,11 @@ fn paths_of(tree: &Tree, word: &str) -> Vec<String> {
     let parts: Vec<&str> = word.split('/').collect();
     let inner = ["specs", "proofs", "src", "must-fail"];
     match parts[..] {
-        ["crates" | "docs" | "tests" | "examples" | "include" | "rust" | "bench" | ".ci", _, ..] => {
+        // What a build leaves is not of the tree.
+        ["target", ..] | ["crates", _, "out", ..] => Vec::new(),
+        ["crates" | "docs" | "tests" | "examples" | "include" | "rust" | "bench" | "tools" | ".ci", _, ..] => {
             vec![word.to_string()]
         }
-        // What a build leaves is not of the tree.
-        ["target", ..] => Vec::new(),
         [first, second, ..] if tree.has_crate(first) || inner.contains(&second) => {
             vec![format!("crates/{word}")]
         }

@@ -57,7 +57,8 @@ fn collect(folder: &Path, prefix: &str, files: &mut Files) -> io::Result<()> {
         let name = entry.file_name().to_string_lossy().into_owned();
         let path = format!("{prefix}{name}");
         if entry.file_type()?.is_dir() {
-            if name != ".git" && name != "target" {
+            let is_made = path.starts_with("crates/") && path.ends_with("/out");
+            if name != ".git" && name != "target" && !is_made {
                 collect(&entry.path(), &format!("{path}/"), files)?;
             }
         } else {

@@ -26,9 +26,9 @@ const REPOSITORY: [(&str, &str); 11] = [
         "README.md",
         "# A title\n\n`sum` and `Said` .number-is, .left in crates/low/specs/Says.antt; `sum-zero` (low/proofs/{Laws, add_up}),\n\
          `low::add_up`, `Pair::swap`, `Shape::Square`, `inside`, `round`. low: one_more, and high_up is above.\n\
-         \"crates/gone and an old_name\" are quoted; `let local = ..;` is code, `D t 0` a line, `rt check low` a command.\n\
+         \"crates/gone and an old_name\" are quoted; `let local = ..;` is code, `D t 0` a line, `rt must-fail low` a command.\n\
          Of include/low.h: LOW_MOST, LOW_FIRST, `low_pair`, low_left, `low_add` and low_one.\n\n    \
-         rt dev high_up      # in docs/PROMISES.md\n",
+         rt ci high_up      # in docs/PROMISES.md\n",
     ),
     (
         "docs/ARCHITECTURE.md",
@@ -65,8 +65,8 @@ const WRONG: [(&str, &str, &str, &str); 37] = [
     ("README.md", "low: one_more", "gone: one_more", "no such edit: gone: one_more"),
     ("README.md", "high_up is", "high_down is", "no such name: high_down"),
     ("README.md", "`let local = ..;`", "`let other = ..;`", "README.md:5: in no source: let other ="),
-    ("README.md", "`rt check low`", "`rt check lower`", "no such crate: lower"),
-    ("README.md", "rt dev high_up", "rt dev higher", "README.md:8: no such crate: higher"),
+    ("README.md", "`rt must-fail low`", "`rt must-fail lower`", "no such crate: lower"),
+    ("README.md", "rt ci high_up", "rt ci higher", "README.md:8: no such crate: higher"),
     ("README.md", "in docs/PROMISES.md", "in docs/PROMISE.md", "no such path: docs/PROMISE.md"),
     ("README.md", "Of include/low.h", "Of include/gone.h", "no such path: include/gone.h"),
     ("README.md", "`low_add`", "`low_other`", "README.md:6: no such name: low_other"),

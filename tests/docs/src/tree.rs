@@ -87,12 +87,25 @@ impl Tree {
         self.edits.iter().any(|edit| edit.name == name)
     }
 
-    /// A file or a folder; a file of statements also without its ending.
+    /// A file or a folder; a file of statements also without its ending; the proof of a function, of which rt finds some
+    /// with no file of ours.
     pub fn has_path(&self, path: &str) -> bool {
         let path = path.trim_end_matches('/');
         self.files.contains_key(path)
             || self.folders.contains(path)
             || self.files.contains_key(&format!("{path}.antt"))
+            || self.is_proof(path)
+    }
+
+    /// Whether a path is crates/CRATE/proofs/NAME or proofs/TYPE/NAME, of a function of that crate.
+    fn is_proof(&self, path: &str) -> bool {
+        let Some((of, function)) = path.split_once("/proofs/") else { return false };
+        let (owner, name) = match function.split_once('/') {
+            Some((owner, name)) => (Some(owner), name),
+            None => (None, function),
+        };
+        let code = format!("{of}/src/");
+        self.defined(name).iter().any(|it| it.file.starts_with(&code) && it.owner.as_deref() == owner)
     }
 
     /// A file of this name in some folder.
@@ -132,7 +145,8 @@ fn folders_of(files: &Files) -> BTreeSet<String> {
 fn crates_of(files: &Files) -> Vec<String> {
     let lines = files.get("crates.txt").map_or("", |text| text).lines();
     let names = lines.filter(|line| !line.starts_with('#')).filter_map(|line| line.split_once(':'));
-    names.map(|(name, _)| name.trim().to_string()).collect()
+    // A static library has that word behind its name.
+    names.filter_map(|(name, _)| name.split_whitespace().next()).map(str::to_string).collect()
 }
 
 type Found = Vec<(String, Option<String>)>;

@@ -1,7 +1,7 @@
 //! What a compiler must find in the header, as a C file: the layout of each struct by the rules of `#[repr(C)]`, the
 //! registers, and each function declared once more, which a compiler takes only where it is the same.
 
-use crate::check::{answer_of, check, dues_of, OBJECTS};
+use crate::check::{answer_of, buffer_arrays, check, dues_of, registers, BUFFER};
 use crate::header::Header;
 use crate::source::{Passed, Source, Type, LIBRARY};
 
@@ -42,19 +42,17 @@ pub fn assertions(header: &Header, source: &Source) -> Result<String, String> {
         }
         text.push_str(&holds(&format!("sizeof({name})"), layout.bytes()));
     }
-    for object in &OBJECTS {
-        text.push('\n');
-        let mut layout = Layout::default();
-        for (name, element, length) in object.arrays(source) {
-            let bytes = element.bytes * length;
-            let at = layout.put(bytes, element.bytes);
-            text.push_str(&field_asserted(object.name, name, at, bytes));
-        }
-        text.push_str(&holds(&format!("sizeof({})", object.name), layout.bytes()));
-        text.push('\n');
-        for (place, name) in object.registers(source).iter().enumerate() {
-            text.push_str(&holds(name, place));
-        }
+    text.push('\n');
+    let mut layout = Layout::default();
+    for (name, element, length) in buffer_arrays(source) {
+        let bytes = element.bytes * length;
+        let at = layout.put(bytes, element.bytes);
+        text.push_str(&field_asserted(BUFFER, name, at, bytes));
+    }
+    text.push_str(&holds(&format!("sizeof({BUFFER})"), layout.bytes()));
+    text.push('\n');
+    for (place, name) in registers(source).iter().enumerate() {
+        text.push_str(&holds(name, place));
     }
     text.push('\n');
     for function in source.functions() {

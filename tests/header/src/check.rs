@@ -4,8 +4,7 @@
 //!   type and name, and the same answer. A slice is a pointer and the number behind it, whose name is free.
 //! - Which struct of the header a struct of the source is, the functions tell, and the fields of structs: the first that
 //!   meet are one, in either direction. Their fields have the same names and types in the same order.
-//! - The arrays of `gel_buffer` are those that `gel_step` is lent, those of `gel_packets` those that `gel_packets_open`
-//!   is, and no function is lent another array, length or element.
+//! - The arrays of `gel_buffer` are those that `gel_step` is lent, and no function is lent another length or element.
 //! - Lengths, registers and the version are those of the source.
 //! - Where an inline function calls one of them, each argument has its parameter's name.
 
@@ -14,54 +13,20 @@ use crate::source::{Function, Item, Number, Passed, Source, Struct, Type, LIBRAR
 
 pub const HEADER: &str = "include/gelwynnar.h";
 
-/// What a caller lends as arrays.
-pub struct Object {
-    /// The struct that has all its arrays, and the function that is lent these and no other.
-    pub name: &'static str,
-    lent_all: &'static str,
-    /// The crate of its registers and of its arrays' lengths.
-    layout: &'static str,
-    /// The registers there, in the header, as an array, and their number.
-    regs: &'static str,
-    regs_enum: &'static str,
-    regs_array: &'static str,
-    regs_length: &'static str,
-    /// Registers that are called otherwise in C.
-    renamed: &'static [(&'static str, &'static str)],
-}
+/// The struct that has all arrays of a buffer, and the function that is lent all of them.
+pub const BUFFER: &str = "gel_buffer";
+const LENT_ALL: &str = "gel_step";
 
-/// A buffer, and the record of the packet layer.
-pub const OBJECTS: [Object; 2] = [
-    Object {
-        name: "gel_buffer",
-        lent_all: "gel_step",
-        layout: "layout",
-        regs: "Regs",
-        regs_enum: "gel_reg",
-        regs_array: "regs",
-        regs_length: "GEL_REGS",
-        renamed: &[],
-    },
-    Object {
-        name: "gel_packets",
-        lent_all: "gel_packets_open",
-        layout: "packet_layout",
-        regs: "PacketRegs",
-        regs_enum: "gel_packet_reg",
-        regs_array: "packet_regs",
-        regs_length: "GEL_PACKET_REGS",
-        renamed: &[
-            ("queue", "GEL_COMING_QUEUE"),
-            ("size", "GEL_COMING_SIZE"),
-            ("asked", "GEL_PACKET_ASKED"),
-            ("left", "GEL_PACKET_LEFT"),
-        ],
-    },
-];
+/// The crate of the registers and of the arrays' lengths; the registers there, in the header, and as an array.
+const LAYOUT: &str = "layout";
+const REGS: &str = "Regs";
+const REGS_ENUM: &str = "gel_reg";
+const REGS_ARRAY: &str = "regs";
 
 /// A number of the source has this before its name in C. Lengths end in the other.
 const PREFIX: &str = "GEL_";
 const LENGTHS_END: &str = "_PLACES";
+const REGS_LENGTH: &str = "GEL_REGS";
 
 const VERSION: &str = "GEL_VERSION";
 const VERSION_TOLD_BY: &str = "gel_version";
@@ -167,22 +132,16 @@ pub fn arrays_of<'a>(source: &Source, function: &'a Function) -> Vec<(&'a str, &
     arrays.collect()
 }
 
-impl Object {
-    /// Its arrays, as the source has them.
-    pub fn arrays<'a>(&self, source: &'a Source) -> Vec<(&'a str, &'static Number, usize)> {
-        let lent_all = source.functions().iter().find(|it| it.name == self.lent_all);
-        lent_all.map_or(Vec::new(), |it| arrays_of(source, it))
-    }
+/// The arrays of a buffer, as the source has them.
+pub fn buffer_arrays(source: &Source) -> Vec<(&str, &'static Number, usize)> {
+    let lent_all = source.functions().iter().find(|it| it.name == LENT_ALL);
+    lent_all.map_or(Vec::new(), |it| arrays_of(source, it))
+}
 
-    /// Its registers in C, in the order of the source.
-    pub fn registers(&self, source: &Source) -> Vec<String> {
-        let regs = source.crates.get(self.layout).and_then(|it| it.struct_of(self.regs));
-        let in_c = |name: &str| match self.renamed.iter().find(|it| it.0 == name) {
-            Some((_, other)) => other.to_string(),
-            None => in_capitals(name),
-        };
-        regs.map_or(Vec::new(), |it| it.fields.iter().map(|it| in_c(&it.name)).collect())
-    }
+/// The registers in C, in the order of the source.
+pub fn registers(source: &Source) -> Vec<String> {
+    let regs = source.crates.get(LAYOUT).and_then(|it| it.struct_of(REGS));
+    regs.map_or(Vec::new(), |it| it.fields.iter().map(|it| in_capitals(&it.name)).collect())
 }
 
 fn in_capitals(name: &str) -> String {
@@ -286,8 +245,7 @@ impl<'a> Checker<'a> {
             }
             place += 1;
         }
-        let is_object = |name: &str| OBJECTS.iter().any(|it| it.name == name);
-        for it in self.header.structs.iter().filter(|it| !is_object(&it.name)) {
+        for it in self.header.structs.iter().filter(|it| it.name != BUFFER) {
             let is_one = self.pairs.all.iter().any(|pair| pair.1 == it.name);
             self.hold(is_one, it.line, || format!("{} is no struct of the source", it.name));
         }
@@ -312,53 +270,37 @@ impl<'a> Checker<'a> {
     }
 
     fn arrays(&mut self) {
-        let header = self.header;
-        let mut lendable = Vec::new();
-        for object in &OBJECTS {
-            let name = object.name;
-            let Some(found) = header.structs.iter().find(|it| it.name == name) else {
-                self.hold(false, 1, || format!("there is no struct {name}"));
-                continue;
-            };
-            let dues = object.arrays(self.source);
-            let (fields, due) = (found.fields.len(), dues.len());
-            self.hold(fields == due, found.line, || {
-                format!(
-                    "{name} has {fields} arrays, and {due} are due: as many as {} is lent",
-                    object.lent_all
-                )
-            });
-            for (field, due) in found.fields.iter().zip(dues) {
-                self.array(name, field, due, object.lent_all);
-            }
-            lendable.extend(found.fields.iter().map(|it| (name, it)));
+        let Some(buffer) = self.header.structs.iter().find(|it| it.name == BUFFER) else {
+            return self.hold(false, 1, || format!("there is no struct {BUFFER}"));
+        };
+        let dues = buffer_arrays(self.source);
+        let (fields, due) = (buffer.fields.len(), dues.len());
+        self.hold(fields == due, buffer.line, || {
+            format!("{BUFFER} has {fields} arrays, and {due} are due: as many as {LENT_ALL} is lent")
+        });
+        for (field, due) in buffer.fields.iter().zip(dues) {
+            self.array(field, due, LENT_ALL);
         }
         for function in self.source.functions() {
             for due in arrays_of(self.source, function) {
-                match lendable.iter().find(|it| it.1.name == due.0) {
-                    Some((name, field)) => self.array(name, field, due, &function.name),
-                    None => self.report.hold(false, || {
-                        format!("{HEADER}: no struct has an array {}, which {} is lent", due.0, function.name)
+                match buffer.fields.iter().find(|it| it.name == due.0) {
+                    Some(field) => self.array(field, due, &function.name),
+                    None => self.hold(false, buffer.line, || {
+                        format!("{BUFFER} has no array {}, which {} is lent", due.0, function.name)
                     }),
                 }
             }
         }
     }
 
-    fn array(
-        &mut self,
-        of: &str,
-        field: &CItem,
-        (name, element, length): (&str, &Number, usize),
-        lent_to: &str,
-    ) {
+    fn array(&mut self, field: &CItem, (name, element, length): (&str, &Number, usize), lent_to: &str) {
         let found = self.header.number(field.length.as_deref().unwrap_or(""));
         let holds = field.name == name && field.of == CType::plain(element.c) && found == Some(length);
         self.hold(holds, field.line, || {
             let long = field.length.as_deref().unwrap_or("");
             let found = found.map_or(String::new(), |it| format!(" ({it})"));
             format!(
-                "{of} has '{}[{long}]'{found}, and {lent_to} is lent '{} {name}[{length}]'",
+                "{BUFFER} has '{}[{long}]'{found}, and {lent_to} is lent '{} {name}[{length}]'",
                 field.of.before(&field.name),
                 element.c
             )
@@ -366,37 +308,32 @@ impl<'a> Checker<'a> {
     }
 
     fn registers(&mut self) {
-        for object in &OBJECTS {
-            let Object { layout, regs, regs_enum, regs_array, .. } = object;
-            let dues = object.registers(self.source);
-            self.report.hold(!dues.is_empty(), || format!("crates/{layout}/src has no struct {regs}"));
-            match self.header.enums.iter().find(|it| it.name == *regs_enum) {
-                None => self.hold(false, 1, || format!("there is no enum {regs_enum}")),
-                Some(found) => self.hold(found.values == dues, found.line, || {
-                    format!("{regs_enum} is {}, and {} is due", found.values.join(" "), dues.join(" "))
-                }),
-            }
-            let length = object.arrays(self.source).iter().find(|it| it.0 == *regs_array).map(|it| it.2);
-            self.report.hold(length == Some(dues.len()), || {
-                format!("the array {regs_array} has not as many places as the struct {regs} has fields")
-            });
+        let dues = registers(self.source);
+        self.report.hold(!dues.is_empty(), || format!("crates/{LAYOUT}/src has no struct {REGS}"));
+        match self.header.enums.iter().find(|it| it.name == REGS_ENUM) {
+            None => self.hold(false, 1, || format!("there is no enum {REGS_ENUM}")),
+            Some(found) => self.hold(found.values == dues, found.line, || {
+                format!("{REGS_ENUM} is {}, and {} is due", found.values.join(" "), dues.join(" "))
+            }),
         }
-        let is_held = |name: &str| OBJECTS.iter().any(|it| it.regs_enum == name);
-        for it in self.header.enums.iter().filter(|it| !is_held(&it.name)) {
+        for it in self.header.enums.iter().filter(|it| it.name != REGS_ENUM) {
             self.hold(false, it.line, || format!("{} is held to nothing", it.name));
         }
+        let length = buffer_arrays(self.source).iter().find(|it| it.0 == REGS_ARRAY).map(|it| it.2);
+        self.report.hold(length == Some(dues.len()), || {
+            format!("the array {REGS_ARRAY} has not as many places as the struct {REGS} has fields")
+        });
     }
 
     /// Each number that the header has by name, and each length of the source.
     fn numbers(&mut self) {
-        let mut dues: Vec<(String, Option<usize>)> = Vec::new();
-        for object in &OBJECTS {
-            let layout = self.source.crates.get(object.layout);
-            let lengths = layout.into_iter().flat_map(|it| it.constants.keys());
-            let lengths = lengths.filter(|name| name.ends_with(LENGTHS_END));
-            dues.extend(lengths.map(|name| (in_capitals(name), self.source.constant(object.layout, name))));
-            dues.push((object.regs_length.to_string(), Some(object.registers(self.source).len())));
-        }
+        let layout = self.source.crates.get(LAYOUT);
+        let lengths = layout.into_iter().flat_map(|it| it.constants.keys());
+        let mut dues: Vec<(String, Option<usize>)> = lengths
+            .filter(|name| name.ends_with(LENGTHS_END))
+            .map(|name| (in_capitals(name), self.source.constant(LAYOUT, name)))
+            .collect();
+        dues.push((REGS_LENGTH.to_string(), Some(registers(self.source).len())));
         dues.push((VERSION.to_string(), self.source.told_by(VERSION_TOLD_BY)));
         for (name, due) in &dues {
             let found = self.header.defines.iter().find(|it| it.name == *name);

@@ -90,7 +90,9 @@ fn collect(folder: &Path, prefix: &str, files: &mut Files) -> io::Result<()> {
         let entry = entry?;
         let path = format!("{prefix}{}", entry.file_name().to_string_lossy());
         if entry.file_type()?.is_dir() {
-            if ["include", "crates"].contains(&path.as_str()) || !prefix.is_empty() {
+            // What rt makes of a crate is no source.
+            let is_made = path.starts_with("crates/") && path.ends_with("/out");
+            if ["include", "crates"].contains(&path.as_str()) || !prefix.is_empty() && !is_made {
                 collect(&entry.path(), &format!("{path}/"), files)?;
             }
         } else if path == HEADER || path.ends_with(".rt") {

@@ -11,9 +11,8 @@ const LAYOUT_RT: &str = "crates/layout/src/lib.rt";
 const LIBRARY_RT: &str = "crates/gelwynnar/src/lib.rt";
 const MODULE_RT: &str = "crates/gelwynnar/src/lists.rt";
 const PAIRS_RT: &str = "crates/pairs/src/lib.rt";
-const PACKETS_RT: &str = "crates/packet_layout/src/lib.rt";
 
-const SMALL: [(&str, &str); 8] = [
+const SMALL: [(&str, &str); 6] = [
     (
         HEADER,
         r#"/* Not part of it: void gel_lost(void); */
@@ -58,14 +57,6 @@ size_t gel_write(gel_command command, const uint64_t *calls, size_t calls_count,
 static inline gel_answer gel_buffer_step(gel_buffer *g, uint64_t call, uint8_t *store, size_t bytes) {
     return gel_step(g->regs, g->tail, g->heads, g->tails, call, store, bytes);
 }
-#define GEL_PACKET_REGS 2
-#define GEL_LENGTH_PLACES 6
-enum gel_packet_reg { GEL_COMES, GEL_COMING_QUEUE };
-typedef struct gel_packets {
-    uint16_t packet_regs[GEL_PACKET_REGS];
-    uint16_t lengths[GEL_LENGTH_PLACES];
-} gel_packets;
-void gel_packets_open(uint16_t *packet_regs, uint16_t *lengths);
 #ifdef __cplusplus
 }
 #endif
@@ -81,7 +72,7 @@ void gel_packets_open(uint16_t *packet_regs, uint16_t *lengths);
     ),
     (
         LIBRARY_RT,
-        r#"ghost use Rattle·model.specs.{_≡_};
+        r#"ghost use Rattle.std.specs.Prelude.{◌≡◌};
 use layout::CountArray;
 use layout::TailArray;
 
@@ -101,14 +92,14 @@ struct Inner {
     wide: bool,
 }
 
-#[no_mangle]
+#[unsafe(no_mangle)]
 pub extern "C" fn gel_version() -> u32
-    ensures { λ r. ⌜ r ≡ 3 ⌝ }
+    ensures { result ≡ 3 }
 {
     VERSION
 }
 
-#[no_mangle]
+#[unsafe(no_mangle)]
 pub extern "C" fn gel_clear(tail: &mut TailArray) {
     let brace = b'{';
 }
@@ -117,7 +108,7 @@ fn helper(wide: bool) -> Inner {
     Inner { wide: wide }
 }
 
-#[no_mangle]
+#[unsafe(no_mangle)]
 pub extern "C" fn gel_step(
     regs: &mut [usize; 2],
     tail: &mut TailArray,
@@ -126,13 +117,13 @@ pub extern "C" fn gel_step(
     call: u64,
     store: &mut [u8],
 ) -> Answer
-    requires { ⌜ Ready { regs } ⌝ }
-    ensures { λ r. ⌜ Says r ⌝ }
+    requires { Ready { regs.old } }
+    ensures { Says result regs.new }
 {
     helper()
 }
 
-#[no_mangle]
+#[unsafe(no_mangle)]
 pub extern "C" fn gel_margin<'a>(regs: &'a [usize; 2], tail: &'a TailArray, queue: u16) -> i32 {
     0
 }
@@ -149,12 +140,12 @@ pub struct Stretched {
     pub last: Answer,
 }
 
-#[no_mangle]
+#[unsafe(no_mangle)]
 pub extern "C" fn gel_idle(regs: &mut [usize; 2], slots: usize) -> Stretched {
     stretched()
 }
 
-#[no_mangle]
+#[unsafe(no_mangle)]
 pub extern "C" fn gel_write(command: CommandNumbers, calls: &[u64], first: u8) -> usize {
     0
 }
@@ -163,17 +154,7 @@ pub extern "C" fn gel_write(command: CommandNumbers, calls: &[u64], first: u8) -
     (
         PAIRS_RT,
         "#[repr(C)]\npub struct CommandNumbers {\n    pub code: u16,\n    pub operand: u16,\n}\n\n\
-         #[no_mangle]\npub extern \"C\" fn not_in_the_archive() {}\n",
-    ),
-    (
-        PACKETS_RT,
-        "pub const LENGTH_PLACES: usize = 6;\npub type LengthArray = [u16; LENGTH_PLACES];\n\
-         pub struct PacketRegs {\n    pub comes: bool,\n    pub queue: u16,\n}\n",
-    ),
-    (
-        "crates/gelwynnar/src/packets.rt",
-        "use packet_layout::LengthArray;\n\n#[no_mangle]\n\
-         pub extern \"C\" fn gel_packets_open(packet_regs: &mut [u16; 2], lengths: &mut LengthArray) {}\n",
+         #[unsafe(no_mangle)]\npub extern \"C\" fn not_in_the_archive() {}\n",
     ),
     (
         "crates/another/src/lib.rt",
@@ -182,7 +163,7 @@ pub extern "C" fn gel_write(command: CommandNumbers, calls: &[u64], first: u8) -
 ];
 
 /// A file, what stands in it, and what may stand there as well.
-const RIGHT: [(&str, &str, &str); 12] = [
+const RIGHT: [(&str, &str, &str); 13] = [
     (HEADER, "size_t store_bytes", "size_t n"),
     (HEADER, "its own comment", "/* size_t other[3]; "),
     (HEADER, "tail[GEL_TAIL_PLACES]", "tail[20]"),
@@ -193,12 +174,17 @@ const RIGHT: [(&str, &str, &str); 12] = [
     (MODULE_RT, "use crate::Answer;", "use crate::slots::Answer;"),
     (LIBRARY_RT, "pub const VERSION: u32 = 3;", "pub const VERSION: u32 = 3u32;"),
     (LIBRARY_RT, "regs: &'a [usize; 2]", "regs: &[usize; 2]"),
-    (LIBRARY_RT, "    ensures { λ r. ⌜ Says r ⌝ }\n", "    ensures bounded { λ r. ⌜ Says r ⌝ }\n"),
+    (
+        LIBRARY_RT,
+        "    ensures { Says result",
+        "    ensures bounded { result.number < 30 }\n    ensures says { Says result",
+    ),
+    (MODULE_RT, "use pairs::CommandNumbers;", "use pairs::{Command, CommandNumbers, specs::Other};"),
     (PAIRS_RT, "#[repr(C)]\n", "// A command.\n#[repr(C)]\n"),
 ];
 
 /// A file, what stands in it, what is put there, and what the check must then say.
-const WRONG: [(&str, &str, &str, &str); 70] = [
+const WRONG: [(&str, &str, &str, &str); 62] = [
     // Functions.
     (
         HEADER,
@@ -233,12 +219,12 @@ const WRONG: [(&str, &str, &str, &str); 70] = [
     (HEADER, "gel_answer gel_step", "gel_stretch gel_step", "'Stretched' is due"),
     (
         LIBRARY_RT,
-        "#[no_mangle]\npub extern \"C\" fn gel_clear",
+        "#[unsafe(no_mangle)]\npub extern \"C\" fn gel_clear",
         "pub fn gel_clear",
         "gel_clear is not exported",
     ),
     (LIBRARY_RT, "pub extern \"C\" fn gel_clear", "pub fn gel_clear", "gel_clear is not exported"),
-    (LIBRARY_RT, "fn helper", "#[no_mangle]\npub extern \"C\" fn helper", "helper is exported, and"),
+    (LIBRARY_RT, "fn helper", "#[unsafe(no_mangle)]\npub extern \"C\" fn helper", "helper is exported, and"),
     (LIBRARY_RT, "call: u64", "call: u32", "'uint64_t call', and 'uint32_t call' is due"),
     (LIBRARY_RT, "store: &mut [u8]", "store: &[u8]", "'uint8_t *store', and 'const uint8_t *store' is due"),
     (LIBRARY_RT, "store: &mut [u8]", "store: &mut [u16]", "'uint16_t *store' is due"),
@@ -301,7 +287,7 @@ const WRONG: [(&str, &str, &str, &str); 70] = [
     ),
     (HEADER, "uint16_t heads[", "uint8_t heads[", "gel_buffer has 'uint8_t heads[GEL_QUEUE_PLACES]'"),
     (HEADER, "    uint16_t tails[GEL_QUEUE_PLACES];\n", "", "gel_buffer has 3 arrays, and 4 are due"),
-    (HEADER, "uint16_t tails[", "uint16_t more[", "no struct has an array tails, which gel_step is lent"),
+    (HEADER, "uint16_t tails[", "uint16_t more[", "gel_buffer has no array tails, which gel_step is lent"),
     (
         HEADER,
         "g->heads, g->tails",
@@ -309,30 +295,6 @@ const WRONG: [(&str, &str, &str, &str); 70] = [
         "gel_buffer_step calls gel_step with tails for heads",
     ),
     (LIBRARY_RT, "regs: &'a [usize; 2]", "regs: &'a [usize; 3]", "and gel_margin is lent 'size_t regs[3]'"),
-    // The record of the packet layer.
-    (HEADER, "} gel_packets;", "} gel_packet;", "the struct gel_packets has another name as a type"),
-    (
-        HEADER,
-        "lengths[GEL_LENGTH_PLACES]",
-        "lengths[7]",
-        "and gel_packets_open is lent 'uint16_t lengths[6]'",
-    ),
-    (
-        HEADER,
-        "    uint16_t lengths[GEL_LENGTH_PLACES];\n",
-        "",
-        "no struct has an array lengths, which gel_packets_",
-    ),
-    (HEADER, "enum gel_packet_reg {", "enum gel_packet_regs {", "there is no enum gel_packet_reg"),
-    (
-        HEADER,
-        "GEL_COMING_QUEUE }",
-        "GEL_QUEUE }",
-        "is GEL_COMES GEL_QUEUE, and GEL_COMES GEL_COMING_QUEUE is",
-    ),
-    (HEADER, "GEL_PACKET_REGS 2", "GEL_PACKET_REGS 3", "GEL_PACKET_REGS is 3, and 2 is due"),
-    (HEADER, "GEL_LENGTH_PLACES 6", "GEL_LENGTH_PLACES 7", "GEL_LENGTH_PLACES is 7, and 6 is due"),
-    (PACKETS_RT, "    pub queue: u16,\n", "", "the array packet_regs has not as many places as the struct"),
     // Numbers and registers.
     (HEADER, "GEL_QUEUES, GEL_TAIL_FILL", "GEL_TAIL_FILL, GEL_QUEUES", "and GEL_QUEUES GEL_TAIL_FILL is due"),
     (HEADER, "GEL_TAIL_FILL }", "GEL_TAIL_FILL = 3 }", "'=' stands where ',' or '}' is due"),

@@ -211,7 +211,10 @@ impl Crate {
                     }
                     continue;
                 }
-                "fn" if ["no_mangle", "extern"].iter().all(|it| before.iter().any(|word| word == it)) => {
+                "fn" if ["unsafe(no_mangle)", "extern"]
+                    .iter()
+                    .all(|it| before.iter().any(|word| word == it)) =>
+                {
                     self.functions.push(function(&mut cursor, place)?);
                 }
                 "struct" => {
@@ -257,7 +260,14 @@ impl Crate {
                     while cursor.take("::") {
                         last = cursor.next().to_string();
                     }
-                    self.uses.insert(last, from);
+                    if last == "{" {
+                        // Of each path in the braces the last name.
+                        for names in cursor.up_to_close().split(|word| word.text == ",") {
+                            self.uses.extend(names.last().map(|it| (it.text.clone(), from.clone())));
+                        }
+                    } else {
+                        self.uses.insert(last, from);
+                    }
                 }
                 _ => {}
             }

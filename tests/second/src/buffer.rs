@@ -230,7 +230,8 @@ impl Buffer {
 
     /// Whether no byte of this queue may arrive: its tail bytes and blocks fill its K blocks.
     pub(crate) fn is_full(&self, queue: usize) -> bool {
-        self.room(queue) == 0
+        let sizes = self.sizes;
+        self.tail[queue].len() + sizes.b * self.rings[queue].count == sizes.k * sizes.b
     }
 
     /// The free store of a queue: K x b less its tail bytes and b x blocks.

@@ -1,9 +1,8 @@
 //! What is to come of a call, by the second program, slot by slot.
 
-use gelwynnar::{Answer, ArbiterAnswer, PacketAnswer, Stretch};
+use gelwynnar::{Answer, ArbiterAnswer, Stretch};
 use second::arbiter;
 use second::buffer::{self, Buffer, Refill};
-use second::packets::{self, PacketCall, Record};
 use second::random::Random;
 use second::raw::RawState;
 use second::sizes::{Design, Sizes};
@@ -11,7 +10,6 @@ use second::sizes::{Design, Sizes};
 use crate::arbitrated::Turn;
 use crate::difference;
 use crate::image::Image;
-use crate::packet_words;
 use crate::refilled::Met;
 use crate::words::{self, Arrival, Call, IDLE};
 
@@ -106,33 +104,6 @@ impl Expected {
         self.accepted += usize::from(found.answer.number == 0);
         self.last_asked = found.asked.unwrap_or(self.last_asked);
         words::arbiter_answer(found)
-    }
-
-    /// What the bytes of a slot of the packet layer meet: what comes in, and the byte request.
-    pub fn packet_meets(&self, record: &Record, call: PacketCall) -> Met {
-        self.meets((record.arrival(call.byte), record.byte_request()))
-    }
-
-    /// A slot of the packet layer, with this record beside the state.
-    pub fn packet_slot(&mut self, record: &mut Record, call: PacketCall) -> PacketAnswer {
-        self.packet_slot_in(record, call, self.store.len())
-    }
-
-    pub fn packet_slot_in(
-        &mut self,
-        record: &mut Record,
-        call: PacketCall,
-        store_bytes: usize,
-    ) -> PacketAnswer {
-        let found = match &mut self.buffer {
-            Some(buffer) => {
-                let cells = Design::Full.cells(self.sizes);
-                buffer.packet_slot(cells, record, call, &mut self.store[..store_bytes])
-            }
-            None => packets::PacketAnswer::stopped(3),
-        };
-        self.accepted += usize::from(found.answer.number == 0);
-        packet_words::packet_answer(found)
     }
 
     /// 3 or 2, which every slot with so many bytes of the store answers, or 0.

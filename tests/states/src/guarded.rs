@@ -40,7 +40,7 @@ pub struct Guarded<T> {
     count: usize,
 }
 
-impl<T: Clone> Guarded<T> {
+impl<T: Copy> Guarded<T> {
     /// Room for so many places.
     pub fn new(most: usize) -> Guarded<T> {
         // Safe: a number out.
@@ -75,7 +75,7 @@ impl<T: Clone> Guarded<T> {
             let (strip, width) = self.strip();
             ptr::write_bytes(strip, KNOWN, width);
         }
-        self.slice_mut().clone_from_slice(values);
+        self.slice_mut().copy_from_slice(values);
     }
 
     pub fn slice(&self) -> &[T] {

@@ -4,12 +4,11 @@
 //!
 //! COUNT states, 20,000 where nothing is said, each with a slot and then steps, with a slot in which the arbiter
 //! chooses and then steps, with the same slot judged, and as the start of a run, of idle slots and of two margins; for
-//! each twenty of them a list of slots from a fresh state; for each two a state and a record of the packet layer (request
-//! 2.7), with a slot and with steps, and for each twenty a list of the layer's slots; and sizes. Every array lies against a
-//! page that nobody may touch. Prints how often each fault, each answer, each call, each outcome of a full queue that is
-//! read and refilled (request 2.1), each outcome of the arbiter's choice and its longest waits (request 2.2), the fewest
-//! and the most slots left at a read (request 2.6), and each fault and each event of the packet layer came: with 20,000
-//! states or more too seldom is a failure. The last line is 'N passed, M failed'.
+//! each twenty of them a list of slots from a fresh state; and sizes. Every array lies against a page that nobody may
+//! touch. Prints how often each fault, each answer, each call, each outcome of a full queue that is read and refilled
+//! (request 2.1), each outcome of the arbiter's choice and its longest waits (request 2.2), and the fewest and the most
+//! slots left at a read (request 2.6) came: with 20,000 states or more too seldom is a failure. The last line is
+//! 'N passed, M failed'.
 
 mod arbitrated;
 mod difference;
@@ -21,14 +20,6 @@ mod handed;
 mod image;
 mod lists;
 mod memory;
-mod packet_calls;
-mod packet_handed;
-mod packet_image;
-mod packet_lists;
-mod packet_memory;
-mod packet_seen;
-mod packet_states;
-mod packet_words;
 mod picks;
 mod refilled;
 mod seen;
@@ -44,13 +35,11 @@ use second::random::Random;
 
 use guarded::Edge;
 use memory::Memory;
-use packet_seen::PacketSeen;
 use picks::is_large;
 use seen::Seen;
 
-/// A list for so many states, and a state with a record for so many.
+/// A list for so many states.
 const STATES_TO_A_LIST: usize = 20;
-const STATES_TO_A_RECORD: usize = 2;
 
 /// No more than so many failures are printed, since one fault may fail thousands of tests.
 const PRINTED: usize = 20;
@@ -81,20 +70,6 @@ fn main() -> ExitCode {
             lists::check(Edge::of_turn(place), &mut memory, &mut random, &mut seen)
         });
     }
-    let mut packets_seen = PacketSeen::default();
-    for place in 0..count.div_ceil(STATES_TO_A_RECORD) {
-        let mut random = generator(seed, signals::RECORD, place);
-        report.test(signals::RECORD, place, || {
-            let handed = packet_handed::handed(&mut random);
-            packet_states::check(&handed, Edge::of_turn(place), &mut memory, &mut random, &mut packets_seen)
-        });
-    }
-    for place in 0..count.div_ceil(STATES_TO_A_LIST) {
-        let mut random = generator(seed, signals::PACKET_LIST, place);
-        report.test(signals::PACKET_LIST, place, || {
-            packet_lists::check(place, Edge::of_turn(place), &mut memory, &mut random, &mut packets_seen)
-        });
-    }
     for (place, (name, test)) in sizes::all().into_iter().enumerate() {
         let mut random = generator(seed, signals::SIZES, place);
         report.test(signals::SIZES, place, || {
@@ -103,9 +78,8 @@ fn main() -> ExitCode {
     }
 
     println!("{seen}");
-    println!("{packets_seen}");
     if count >= seen::USUAL_STATES {
-        for what in seen.too_seldom().into_iter().chain(packets_seen.too_seldom()) {
+        for what in seen.too_seldom() {
             println!("{what}");
             report.failed += 1;
         }

@@ -1,12 +1,11 @@
-//! The memory that the library is lent: every array of a buffer and of a packet layer's record, the store, calls and
-//! answers, each by itself against a page that nobody may touch.
+//! The memory that the library is lent: every array of a buffer, its store, calls and answers, each by itself against
+//! a page that nobody may touch.
 
 use gelwynnar::{Lent, CELL_PLACES, HEAD_PLACES, QUEUE_PLACES, REGS, TAIL_PLACES};
 
 use crate::difference;
 use crate::guarded::{Edge, Guarded};
 use crate::image::{Counts, Image, Places};
-use crate::packet_memory::{PacketsMemory, RecordMemory};
 
 /// The longest store here: Q x b of accepted sizes is at most 63 x 33 and K 255, and some bytes beyond.
 pub const STORE_BYTES: usize = 540_000;
@@ -16,8 +15,6 @@ pub const RUN_CALLS: usize = 64;
 
 pub struct Memory {
     pub arrays: Arrays,
-    pub record: RecordMemory,
-    pub packets: PacketsMemory,
     pub store: Guarded<u8>,
     pub calls: Guarded<u64>,
     pub answers: Guarded<u64>,
@@ -49,8 +46,6 @@ impl Memory {
                 heads: Guarded::new(QUEUE_PLACES),
                 owing: Guarded::new(QUEUE_PLACES),
             },
-            record: RecordMemory::new(),
-            packets: PacketsMemory::new(),
             store: Guarded::new(STORE_BYTES),
             calls: Guarded::new(RUN_CALLS),
             answers: Guarded::new(RUN_CALLS),

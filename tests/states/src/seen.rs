@@ -351,7 +351,7 @@ fn spoken([slot, arrival, request]: Numbers) -> String {
     }
 }
 
-pub fn listed<K>(times: &BTreeMap<K, usize>, name: impl Fn(&K) -> String) -> String {
+fn listed<K>(times: &BTreeMap<K, usize>, name: impl Fn(&K) -> String) -> String {
     let parts: Vec<String> = times.iter().map(|(kind, times)| format!("{}: {times}", name(kind))).collect();
     parts.join(", ")
 }

@@ -7,9 +7,7 @@ use std::sync::atomic::{AtomicUsize, Ordering::Relaxed};
 pub const STATE: usize = 0;
 pub const LIST: usize = 1;
 pub const SIZES: usize = 2;
-pub const RECORD: usize = 3;
-pub const PACKET_LIST: usize = 4;
-pub const KINDS: [&str; 5] = ["state", "list", "sizes", "record", "packet list"];
+pub const KINDS: [&str; 3] = ["state", "list", "sizes"];
 
 static KIND: AtomicUsize = AtomicUsize::new(0);
 static PLACE: AtomicUsize = AtomicUsize::new(0);

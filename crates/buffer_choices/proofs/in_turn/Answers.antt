@@ -14,21 +14,26 @@ use Rattle.buffer_choices.proofs.InTurn.{read_told}
 use Rattle.buffer_choices.proofs.in_turn.Goals as goal
 use Rattle.buffer_choices.proofs.in_turn.Goals.{After-early_arrival-early, After-late_arrival-late, After-swaps-swapping}
 
-accepted : (c : After-swaps-swapping) → Accepted paper (state_of c.args.state) (c.args.store.now) (call_in c.judge-judged.result.arrival c.judge-judged.result.request)
+accepted : (c : After-swaps-swapping) → Accepted paper (state_of c.args.state) (c.args.store.now) (call_in
+    c.judge-judged.result.arrival c.judge-judged.result.request)
 accepted c =
     judged_accepted (c.args.store.now) (call_in c.args.arrival c.args.request) c.judge-judged.ensures
     c.if-number-ne0.false
 
 -- What the four choices tell is what the slot decides.
 early-is : (c : After-early_arrival-early)
-    → arrival_in c.early_arrival-early.result ≡ early_arrival (state_of c.args.state) (call_in c.judge-judged.result.arrival c.judge-judged.result.request)
+    → arrival_in c.early_arrival-early.result ≡ early_arrival (state_of c.args.state) (call_in
+    c.judge-judged.result.arrival c.judge-judged.result.request)
 early-is c =
-    early_told (state_of c.args.state) (call_in c.judge-judged.result.arrival c.judge-judged.result.request) c.swaps-swapping.ensures c.early_arrival-early.ensures
+    early_told (state_of c.args.state) (call_in c.judge-judged.result.arrival c.judge-judged.result.request)
+    c.swaps-swapping.ensures c.early_arrival-early.ensures
 
 late_is : (c : After-late_arrival-late)
-    → arrival_in c.late_arrival-late.result ≡ late_arrival (state_of c.args.state) (call_in c.judge-judged.result.arrival c.judge-judged.result.request)
+    → arrival_in c.late_arrival-late.result ≡ late_arrival (state_of c.args.state) (call_in
+    c.judge-judged.result.arrival c.judge-judged.result.request)
 late_is c =
-    late_told (state_of c.args.state) (call_in c.judge-judged.result.arrival c.judge-judged.result.request) c.swaps-swapping.ensures c.late_arrival-late.ensures
+    late_told (state_of c.args.state) (call_in c.judge-judged.result.arrival c.judge-judged.result.request)
+    c.swaps-swapping.ensures c.late_arrival-late.ensures
 
 pub returns-then-number-ne0 : goal.returns-then-number-ne0
 returns-then-number-ne0 c =
@@ -38,44 +43,82 @@ returns-then-number-ne0 c =
     c.number_alone-refused.ensures
 
 pub deliver-first-requires : goal.deliver-first-requires
-deliver-first-requires c = can_deliver _ _ _ (accepted (goal.at.deliver-first-requires c).After-swaps-swapping)
+deliver-first-requires c =
+    let ok = accepted (goal.at.deliver-first-requires c).After-swaps-swapping in
+    can_deliver _ _ _ ok
 
 pub arrive-arrived-requires : goal.arrive-arrived-requires
-arrive-arrived-requires c = can_arrive _ _ _ (accepted (goal.at.arrive-arrived-requires c).After-swaps-swapping) c.deliver-first.ensures.0
+arrive-arrived-requires c =
+    let ok = accepted (goal.at.arrive-arrived-requires c).After-swaps-swapping in
+    can_arrive _ _ _ ok c.deliver-first.ensures.0
 
 pub ask-asked-requires : goal.ask-asked-requires
 ask-asked-requires c =
-    can_ask _ _ _ (accepted (goal.at.ask-asked-requires c).After-swaps-swapping) c.deliver-first.ensures.0 (early-is (goal.at.ask-asked-requires c).After-early_arrival-early) c.arrive-arrived.ensures
-    c.owes_request-owing.result (owing_told (accepted (goal.at.ask-asked-requires c).After-swaps-swapping) c.deliver-first.ensures.0 (early-is (goal.at.ask-asked-requires c).After-early_arrival-early) c.arrive-arrived.ensures c.owes_request-owing.ensures)
+    let ok = accepted (goal.at.ask-asked-requires c).After-swaps-swapping in
+    let early = early-is (goal.at.ask-asked-requires c).After-early_arrival-early in
+    can_ask _ _ _ ok c.deliver-first.ensures.0 early c.arrive-arrived.ensures
+    c.owes_request-owing.result (owing_told ok c.deliver-first.ensures.0 early c.arrive-arrived.ensures
+    c.owes_request-owing.ensures)
 
 pub arrive-filled-requires : goal.arrive-filled-requires
 arrive-filled-requires c =
-    can_arrive_late _ _ _ (accepted (goal.at.arrive-filled-requires c).After-swaps-swapping) c.deliver-first.ensures.0 (early-is (goal.at.arrive-filled-requires c).After-early_arrival-early) c.arrive-arrived.ensures
+    let ok = accepted (goal.at.arrive-filled-requires c).After-swaps-swapping in
+    let early = early-is (goal.at.arrive-filled-requires c).After-early_arrival-early in
+    can_arrive_late _ _ _ ok c.deliver-first.ensures.0 early c.arrive-arrived.ensures
     c.ask-asked.ensures
 
 pub write-wrote-requires : goal.write-wrote-requires
 write-wrote-requires c =
-    can_write _ _ _ (accepted (goal.at.write-wrote-requires c).After-swaps-swapping) c.deliver-first.ensures.0 (early-is (goal.at.write-wrote-requires c).After-early_arrival-early) c.arrive-arrived.ensures c.ask-asked.ensures
-    (late_is (goal.at.write-wrote-requires c).After-late_arrival-late) c.arrive-filled.ensures (write_told (accepted (goal.at.write-wrote-requires c).After-swaps-swapping) c.deliver-first.ensures.0 (early-is (goal.at.write-wrote-requires c).After-early_arrival-early) c.arrive-arrived.ensures c.ask-asked.ensures (late_is (goal.at.write-wrote-requires c).After-late_arrival-late) c.arrive-filled.ensures c.to_write-written.ensures)
+    let ok = accepted (goal.at.write-wrote-requires c).After-swaps-swapping in
+    let early = early-is (goal.at.write-wrote-requires c).After-early_arrival-early in
+    let late = late_is (goal.at.write-wrote-requires c).After-late_arrival-late in
+    let wrote = write_told ok c.deliver-first.ensures.0 early c.arrive-arrived.ensures c.ask-asked.ensures late
+    c.arrive-filled.ensures c.to_write-written.ensures in
+    can_write _ _ _ ok c.deliver-first.ensures.0 early c.arrive-arrived.ensures c.ask-asked.ensures
+    late c.arrive-filled.ensures wrote
 
 pub read-refilled-requires : goal.read-refilled-requires
 read-refilled-requires c =
-    can_read _ _ _ (accepted (goal.at.read-refilled-requires c).After-swaps-swapping) c.deliver-first.ensures.0 (early-is (goal.at.read-refilled-requires c).After-early_arrival-early) c.arrive-arrived.ensures c.ask-asked.ensures
-    (late_is (goal.at.read-refilled-requires c).After-late_arrival-late) c.arrive-filled.ensures (write_told (accepted (goal.at.read-refilled-requires c).After-swaps-swapping) c.deliver-first.ensures.0 (early-is (goal.at.read-refilled-requires c).After-early_arrival-early) c.arrive-arrived.ensures c.ask-asked.ensures (late_is (goal.at.read-refilled-requires c).After-late_arrival-late) c.arrive-filled.ensures c.to_write-written.ensures) c.write-wrote.ensures.0 c.write-wrote.ensures.1 (read_told (accepted (goal.at.read-refilled-requires c).After-swaps-swapping) c.deliver-first.ensures.0 (early-is (goal.at.read-refilled-requires c).After-early_arrival-early) c.arrive-arrived.ensures c.ask-asked.ensures (late_is (goal.at.read-refilled-requires c).After-late_arrival-late) c.arrive-filled.ensures c.to_write-written.ensures c.write-wrote.ensures.0 c.write-wrote.ensures.1 c.to_read-refill.ensures)
+    let ok = accepted (goal.at.read-refilled-requires c).After-swaps-swapping in
+    let early = early-is (goal.at.read-refilled-requires c).After-early_arrival-early in
+    let late = late_is (goal.at.read-refilled-requires c).After-late_arrival-late in
+    let wrote = write_told ok c.deliver-first.ensures.0 early c.arrive-arrived.ensures c.ask-asked.ensures late
+    c.arrive-filled.ensures c.to_write-written.ensures in
+    let read = read_told ok c.deliver-first.ensures.0 early c.arrive-arrived.ensures c.ask-asked.ensures late
+    c.arrive-filled.ensures c.to_write-written.ensures c.write-wrote.ensures.0 c.write-wrote.ensures.1
+    c.to_read-refill.ensures in
+    can_read _ _ _ ok c.deliver-first.ensures.0 early c.arrive-arrived.ensures c.ask-asked.ensures
+    late c.arrive-filled.ensures wrote c.write-wrote.ensures.0 c.write-wrote.ensures.1 read
 
 pub turn-turned-requires : goal.turn-turned-requires
 turn-turned-requires c =
-    can_turn _ _ _ (accepted (goal.at.turn-turned-requires c).After-swaps-swapping) c.deliver-first.ensures.0 (early-is (goal.at.turn-turned-requires c).After-early_arrival-early) c.arrive-arrived.ensures c.ask-asked.ensures
-    (late_is (goal.at.turn-turned-requires c).After-late_arrival-late) c.arrive-filled.ensures (write_told (accepted (goal.at.turn-turned-requires c).After-swaps-swapping) c.deliver-first.ensures.0 (early-is (goal.at.turn-turned-requires c).After-early_arrival-early) c.arrive-arrived.ensures c.ask-asked.ensures (late_is (goal.at.turn-turned-requires c).After-late_arrival-late) c.arrive-filled.ensures c.to_write-written.ensures) c.write-wrote.ensures.0 c.write-wrote.ensures.1 (read_told (accepted (goal.at.turn-turned-requires c).After-swaps-swapping) c.deliver-first.ensures.0 (early-is (goal.at.turn-turned-requires c).After-early_arrival-early) c.arrive-arrived.ensures c.ask-asked.ensures (late_is (goal.at.turn-turned-requires c).After-late_arrival-late) c.arrive-filled.ensures c.to_write-written.ensures c.write-wrote.ensures.0 c.write-wrote.ensures.1 c.to_read-refill.ensures)
+    let ok = accepted (goal.at.turn-turned-requires c).After-swaps-swapping in
+    let early = early-is (goal.at.turn-turned-requires c).After-early_arrival-early in
+    let late = late_is (goal.at.turn-turned-requires c).After-late_arrival-late in
+    let wrote = write_told ok c.deliver-first.ensures.0 early c.arrive-arrived.ensures c.ask-asked.ensures late
+    c.arrive-filled.ensures c.to_write-written.ensures in
+    let read = read_told ok c.deliver-first.ensures.0 early c.arrive-arrived.ensures c.ask-asked.ensures late
+    c.arrive-filled.ensures c.to_write-written.ensures c.write-wrote.ensures.0 c.write-wrote.ensures.1
+    c.to_read-refill.ensures in
+    can_turn _ _ _ ok c.deliver-first.ensures.0 early c.arrive-arrived.ensures c.ask-asked.ensures
+    late c.arrive-filled.ensures wrote c.write-wrote.ensures.0 c.write-wrote.ensures.1 read
     c.read-refilled.ensures
 
 pub returns : goal.returns
 returns c =
+    let ok = accepted (goal.at.returns c).After-swaps-swapping in
+    let early = early-is (goal.at.returns c).After-early_arrival-early in
+    let late = late_is (goal.at.returns c).After-late_arrival-late in
+    let wrote = write_told ok c.deliver-first.ensures.0 early c.arrive-arrived.ensures c.ask-asked.ensures late
+    c.arrive-filled.ensures c.to_write-written.ensures in
+    let read = read_told ok c.deliver-first.ensures.0 early c.arrive-arrived.ensures c.ask-asked.ensures late
+    c.arrive-filled.ensures c.to_write-written.ensures c.write-wrote.ensures.0 c.write-wrote.ensures.1
+    c.to_read-refill.ensures in
     let judged = c.judge-judged in
     record {
-      promised = all_in_turn _ _ _ (accepted (goal.at.returns c).After-swaps-swapping) c.deliver-first.ensures.0 (early-is (goal.at.returns c).After-early_arrival-early) c.arrive-arrived.ensures
-          c.ask-asked.ensures (late_is (goal.at.returns c).After-late_arrival-late) c.arrive-filled.ensures (write_told (accepted (goal.at.returns c).After-swaps-swapping) c.deliver-first.ensures.0 (early-is (goal.at.returns c).After-early_arrival-early) c.arrive-arrived.ensures c.ask-asked.ensures (late_is (goal.at.returns c).After-late_arrival-late) c.arrive-filled.ensures c.to_write-written.ensures) c.write-wrote.ensures.0
-          c.write-wrote.ensures.1 (read_told (accepted (goal.at.returns c).After-swaps-swapping) c.deliver-first.ensures.0 (early-is (goal.at.returns c).After-early_arrival-early) c.arrive-arrived.ensures c.ask-asked.ensures (late_is (goal.at.returns c).After-late_arrival-late) c.arrive-filled.ensures c.to_write-written.ensures c.write-wrote.ensures.0 c.write-wrote.ensures.1 c.to_read-refill.ensures) c.read-refilled.ensures judged.result.arrival_number
+      promised = all_in_turn _ _ _ ok c.deliver-first.ensures.0 early c.arrive-arrived.ensures
+          c.ask-asked.ensures late c.arrive-filled.ensures wrote c.write-wrote.ensures.0
+          c.write-wrote.ensures.1 read c.read-refilled.ensures judged.result.arrival_number
           judged.result.request_number c.turn-turned.ensures c.deliver-first.ensures.1
           ∙ judged_carries (c.args.store.now) (call_in c.args.arrival c.args.request) judged.ensures
           c.if-number-ne0.false;

@@ -66,7 +66,9 @@ returns-in-AsksPacket c =
     let s = told in
     let a = s.args in
     rw told.in-AsksPacket.is
-    (ask_takes a.regs a.lengths.now a.listed.now a.request_number (queue-of (goal.at.returns-in-AsksPacket c).In-AsksPacket) (not-dropped (goal.at.returns-in-AsksPacket c).In-AsksPacket)
+    (ask_takes a.regs a.lengths.now a.listed.now a.request_number
+    (queue-of (goal.at.returns-in-AsksPacket c).In-AsksPacket)
+    (not-dropped (goal.at.returns-in-AsksPacket c).In-AsksPacket)
     c.take_oldest-size.result _ c.take_oldest-size.new.lengths c.take_oldest-size.new.listed
     c.take_oldest-size.ensures
     refl

@@ -8,7 +8,6 @@ use Rattle.packet_layout.specs.declared.PacketRequest.TheVariants.{NoPacketReque
 use Rattle.packet_layout.specs.Views.{record_in, call_of}
 use Rattle.packet_record.proofs.Turning.{stays_coming}
 use Rattle.packet_record.proofs.grow.Goals as goal
-use Rattle.packet_record.proofs.grow.Goals.{Else-arrival_number-gt0}
 
 pub returns-then-arrival_number-gt0 : goal.returns-then-arrival_number-gt0
 returns-then-arrival_number-gt0 c =
@@ -20,10 +19,6 @@ returns-then-arrival_number-gt0 c =
       left-same = refl;
     }
 
--- The byte was not dropped.
-counted : (c : Else-arrival_number-gt0) → c.args.arrival_number ≡ 0
-counted c = omega (arith, c.if-arrival_number-gt0.false)
-
 pub overflow_add-result : goal.overflow_add-result
 overflow_add-result c =
     let s = c in
@@ -33,35 +28,39 @@ overflow_add-result c =
 
 pub returns-then-regs : goal.returns-then-regs
 returns-then-regs c =
+    let kept : c.args.arrival_number ≡ 0 = omega arith in
     let told = c in
     record {
-      incoming_is = rw (counted (goal.at.returns-then-regs c).Else-arrival_number-gt0, told.in-Continues.is, c.if-regs.true);
+      incoming_is = rw (kept, told.in-Continues.is, c.if-regs.true);
       asked_same = refl;
       left-same = refl;
     }
 
 pub returns-in-Starts : goal.returns-in-Starts
 returns-in-Starts c =
+    let kept : c.args.arrival_number ≡ 0 = omega arith in
     let told = c in
     record {
-      incoming_is = rw (counted (goal.at.returns-in-Starts c).Else-arrival_number-gt0, told.in-Starts.is);
+      incoming_is = rw (kept, told.in-Starts.is);
       asked_same = refl;
       left-same = refl;
     }
 
 pub returns-else-regs : goal.returns-else-regs
 returns-else-regs c =
+    let kept : c.args.arrival_number ≡ 0 = omega arith in
     let told = c in
     record {
-      incoming_is = rw (counted (goal.at.returns-else-regs c).Else-arrival_number-gt0, told.in-Continues.is, c.if-regs.false);
+      incoming_is = rw (kept, told.in-Continues.is, c.if-regs.false);
       asked_same = refl;
       left-same = refl;
     }
 
 pub returns-in-NoByte : goal.returns-in-NoByte
 returns-in-NoByte c =
+    let kept : c.args.arrival_number ≡ 0 = omega arith in
     record {
-      incoming_is = rw (counted (goal.at.returns-in-NoByte c).Else-arrival_number-gt0, c.in-NoByte.is);
+      incoming_is = rw (kept, c.in-NoByte.is);
       asked_same = refl;
       left-same = refl;
     }

@@ -24,7 +24,8 @@ ask-asked-requires c =
 pub grow-grown-requires : goal.grow-grown-requires
 grow-grown-requires c =
     let s = c in
-    λ d e. not-whole (record_of (goal.at.grow-grown-requires c).Start) (calledWith (goal.at.grow-grown-requires c).Start) s.requires.1 d (sym c.ask-asked.ensures.incoming_same ∙ e)
+    let start = (goal.at.grow-grown-requires c).Start in
+    λ d e. not-whole (record_of start) (calledWith start) s.requires.1 d (sym c.ask-asked.ensures.incoming_same ∙ e)
 
 -- The packet coming in, grown.
 joined : (c : After-grow-grown)
@@ -44,7 +45,8 @@ enter_whole-requires c =
     let s = asked in
     let a = s.args in (
       asked.ask-asked.ensures.lists_long,
-      place_if_whole (record_of (goal.at.enter_whole-requires c).Start) (calledWith (goal.at.enter_whole-requires c).Start) s.requires.1 a.arrival_number a.request_number
+      place_if_whole (record_of (goal.at.enter_whole-requires c).Start)
+          (calledWith (goal.at.enter_whole-requires c).Start) s.requires.1 a.arrival_number a.request_number
           asked.ask-asked.new.lengths asked.ask-asked.new.listed asked.ask-asked.ensures.lists_are _
           (joined (goal.at.enter_whole-requires c).After-grow-grown),
     )

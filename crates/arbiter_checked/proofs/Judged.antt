@@ -1,20 +1,19 @@
 -- A slot of the arbiter's of a state of which 3 and 2 are judged: refused whatever would be chosen, or in place.
-use mathlib.Core.Path.{◌≡◌, refl, ap, sym, ◌∙◌}
+use mathlib.Core.Path.{◌≡◌, refl, ap, sym, ◌∙◌, subst}
 use mathlib.Core.List.{List}
 use mathlib.Core.Option.{Option}
+use Rattle.std.specs.Prelude.{Err, None}
 use Prim.Native.Nat.{ℕ, zero, suc}
 use lib.ListN.{length}
 use Rattle.model.specs.Sizes.{paper}
 use Rattle.model.specs.State.{Byte, State}
-use Rattle.model.specs.Slot as model
-use Rattle.model.specs.Slot.{number_alone, Answer, refuse, slot}
-use Rattle.model.specs.Lists.{taken}
+use Rattle.model.specs.Slot.{Answer, refuse, slot}
 use Rattle.model.specs.Arbiter.{choice, arbiter_call, last_after, noting, arbiter_slot}
 use Rattle.layout.specs.Counts.{ByQueue}
-use Rattle.layout.specs.declared.Request.TheVariants.{NoRequest}
+use Rattle.layout.specs.declared.Refusal.{Refusal}
 use Rattle.layout.specs.declared.Regs.{Regs}
-use Rattle.layout.specs.declared.Reply.{Reply}
-use Rattle.layout.specs.Calls.{reply_in}
+use Rattle.layout.specs.Calls.{number_of}
+use Rattle.layout.proofs.Refusals.{refusal_is_some}
 use Rattle.layout.specs.Views.{Arrays, Long, state_in}
 use Rattle.slot_in_place.specs.Says.{Ready}
 use Rattle.slot_checked.specs.Says.{JudgeStateSays, CountsSay, judged_number, LeaveSays}
@@ -41,22 +40,23 @@ module _ {regs : Regs} (m : Arrays) (store : List ℕ) {before : Regs} (read-in 
   judged : JudgeStateSays (state_in regs m) (length store) n
   judged = judged_state (state_in regs m) (length store) here.0
 
-  pub slot-refused : (arrival : Option Byte) {told : Reply} → (n ≡ 0 → ⊥) → reply_in told ≡ number_alone n
-      → ArbiterAdvanceSays regs m store arrival (record { reply = told; asked = NoRequest }) regs m store
+  pub slot-refused : (arrival : Option Byte) {refusal : Refusal} → n ≡ number_of refusal
+      → ArbiterAdvanceSays regs m store arrival (record { reply = Err refusal; asked = None }) regs m store
       × LeaveSays regs m counts store regs m counts' store
-  slot-refused arrival {told} f alone = (
+  slot-refused arrival {refusal} is = (
     record {
-      answer-is =
-          ap (λ (r : model.Reply). record { reply = r; state = state_in regs m; store = store }) alone
-          ∙ sym (arbiter_refused n (state_in regs m) store arrival f
-          (judged.refused f store (arbiter_call (state_in regs m) arrival) refl));
-      asked_is =
-          taken_not n (choice (state_in regs m) arrival) f
-          ∙ ap (λ (r : model.Reply). taken r.number (choice (state_in regs m) arrival)) (sym alone);
+      answer-is = sym (arbiter_refused (number_of refusal) (state_in regs m) store arrival (refusal_is_some refusal)
+          (subst (λ (k : ℕ). slot paper (state_in regs m) store (arbiter_call (state_in regs m) arrival)
+          ≡ refuse k (state_in regs m) store) is
+          (judged.refused other store (arbiter_call (state_in regs m) arrival) refl)));
+      asked_is = taken_not (number_of refusal) (choice (state_in regs m) arrival) (refusal_is_some refusal);
       as_given = λ _. (refl, refl);
     },
-    leaves_refused regs m store here.0 here.1 f,
+    leaves_refused regs m store here.0 here.1 other,
   )
+    where
+      other : n ≡ 0 → ⊥
+      other z = refusal_is_some refusal (sym is ∙ z)
 
   pub slot-ready : n ≡ 0 → Long m → Ready regs m counts' store
   slot-ready z long = ready_counted regs m store judged z here.1 long

@@ -1,5 +1,6 @@
 // One slot on lent arrays in which the round robin arbiter chooses, whatever the arrays and the store hold: 3 and 2 are
-// judged first, and the rest is in place. The counts by queue are lent too, and are left right.
+// judged first, and the rest is in place. The counts by queue are lent too, and are left right. The arrays are lent one
+// by one: crates/layout says why.
 #![tactic(auto)]
 
 ghost use Rattle.layout.specs.Calls.{arrival_in};
@@ -9,7 +10,7 @@ ghost use Rattle.slot_checked.specs.Says.{LeaveSays};
 ghost use Rattle.arbiter_in_place.specs.Says.{ArbiterAdvanceSays};
 
 use arbiter_in_place::Arbitrated;
-use layout::{Arrival, CellArray, CountArray, HeadArray, RegArray, Request, RingArray, TailArray};
+use layout::{Byte, CellArray, CountArray, HeadArray, RegArray, RingArray, TailArray};
 
 pub fn slot(
     tail: &mut TailArray,
@@ -21,7 +22,7 @@ pub fn slot(
     heads: &mut CountArray,
     owing: &mut CountArray,
     regs: &mut RegArray,
-    arrival: Arrival,
+    arrival: Option<Byte>,
     store: &mut [u8],
 ) -> Arbitrated
     requires { Long (given tail head cells firsts stored) }
@@ -34,7 +35,7 @@ pub fn slot(
         (counts_left tails heads owing) store.new }
 {
     let before = layout::regs_in(regs);
-    let number = slot_checked::judge_state(
+    let judged = slot_checked::judge_state(
         tail,
         head,
         cells,
@@ -46,11 +47,10 @@ pub fn slot(
         before,
         store.len(),
     );
-    if number != 0 {
-        let refused = layout::number_alone(number);
+    if let Err(refusal) = judged {
         return Arbitrated {
-            reply: refused,
-            asked: Request::NoRequest,
+            reply: Err(refusal),
+            asked: None,
         };
     }
     arbiter_in_place::advance(

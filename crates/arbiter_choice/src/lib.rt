@@ -2,38 +2,34 @@
 // asked and wrapping, that has an unrequested byte.
 #![tactic(auto)]
 
-ghost use Rattle.std.specs.Prelude.{◌≡◌, true, [], ◌<◌, length};
+ghost use Rattle.std.specs.Prelude.{◌≡◌, true, [], ◌<◌};
 ghost use Rattle.model.specs.Sizes.{paper_limits, accepts};
 ghost use Rattle.model.specs.Arbiter.{queue_after};
-ghost use Rattle.layout.specs.Lengths.{queue_places};
 ghost use Rattle.layout.specs.Calls.{arrival_in, request_in};
 ghost use Rattle.layout.specs.Counts.{by_queue};
 ghost use Rattle.layout.specs.Views.{sizes_in};
 ghost use Rattle.layout.specs.Figures.{figures_in};
 ghost use Rattle.arbiter_choice.specs.Says.{counted_now, can_ask_now, choice_now};
 
-use layout::{Arrival, CountArray, Regs, Request, RingArray};
+use layout::{Byte, CountArray, Regs, RingArray};
 
 // The arrival, where it counts in the choice: its queue is known and not full.
-fn counted(tails: &CountArray, stored: &RingArray, regs: Regs, arrival: Arrival) -> Arrival
-    requires { (accepts paper_limits (sizes_in regs) ≡ true)
-        × (length tails.now ≡ queue_places) × (length stored.now ≡ queue_places) }
+fn counted(
+    tails: &CountArray,
+    stored: &RingArray,
+    regs: Regs,
+    arrival: Option<Byte>,
+) -> Option<Byte>
+    requires { accepts paper_limits (sizes_in regs) ≡ true }
     ensures { arrival_in result
         ≡ counted_now (figures_in regs (by_queue tails.now [] []) stored.now) (arrival_in arrival) }
 {
-    match arrival {
-        Arrival::NoArrival => Arrival::NoArrival,
-        Arrival::Comes(queue, value) => {
-            let q = queue as usize;
-            if regs.queues <= q {
-                return Arrival::NoArrival;
-            }
-            if slot_refusals::is_full(tails, stored, regs, q) {
-                return Arrival::NoArrival;
-            }
-            Arrival::Comes(queue, value)
-        }
+    let byte = arrival?;
+    let q = byte.queue as usize;
+    if regs.queues <= q || slot_refusals::is_full(tails, stored, regs, q) {
+        return None;
     }
+    Some(byte)
 }
 
 // Whether a queue has an unrequested byte: in head or slow store, in the tail, or as the arrival that counts.
@@ -43,24 +39,18 @@ fn can_ask(
     owing: &CountArray,
     stored: &RingArray,
     regs: Regs,
-    coming: Arrival,
+    coming: Option<Byte>,
     q: usize,
 ) -> bool
-    requires { (accepts paper_limits (sizes_in regs) ≡ true)
-        × (length tails.now ≡ queue_places) × (length heads.now ≡ queue_places)
-        × (length owing.now ≡ queue_places) × (length stored.now ≡ queue_places) × (q < regs.queues) }
+    requires { (accepts paper_limits (sizes_in regs) ≡ true) × (q < regs.queues) }
     ensures { result ≡ can_ask_now
         (figures_in regs (by_queue tails.now heads.now owing.now) stored.now)
         (arrival_in coming) q }
 {
     let queue = q as u8;
-    if slot_refusals::is_owed(heads, owing, stored, regs, Request::Asks(queue)) {
-        return true;
-    }
-    if 0 < tails[q] {
-        return true;
-    }
-    slot_refusals::arrives_at(coming, queue)
+    slot_refusals::is_owed(heads, owing, stored, regs, Some(queue))
+        || 0 < tails[q]
+        || slot_refusals::arrives_at(coming, queue)
 }
 
 // The queue after q, wrapping.
@@ -68,10 +58,7 @@ fn queue_after(queues: usize, q: usize) -> usize
     requires { q < queues }
     ensures { result ≡ queue_after queues q }
 {
-    if q + 1 < queues {
-        return q + 1;
-    }
-    0
+    if q + 1 < queues { q + 1 } else { 0 }
 }
 
 // The queue to ask, or none: at most all queues are looked at.
@@ -81,25 +68,20 @@ pub fn choose(
     owing: &CountArray,
     stored: &RingArray,
     regs: Regs,
-    arrival: Arrival,
-) -> Request
-    requires { (accepts paper_limits (sizes_in regs) ≡ true)
-        × (length tails.now ≡ queue_places) × (length heads.now ≡ queue_places)
-        × (length owing.now ≡ queue_places) × (length stored.now ≡ queue_places)
-        × (regs.last_asked < regs.queues) }
+    arrival: Option<Byte>,
+) -> Option<u8>
+    requires { (accepts paper_limits (sizes_in regs) ≡ true) × (regs.last_asked < regs.queues) }
     ensures { request_in result ≡ choice_now
         (figures_in regs (by_queue tails.now heads.now owing.now) stored.now)
         regs.last_asked (arrival_in arrival) }
 {
     let coming = counted(tails, stored, regs, arrival);
     let mut q = queue_after(regs.queues, regs.last_asked);
-    let mut left = regs.queues;
-    while 0 < left {
+    for _ in 0..regs.queues {
         if can_ask(tails, heads, owing, stored, regs, coming, q) {
-            return Request::Asks(q as u8);
+            return Some(q as u8);
         }
         q = queue_after(regs.queues, q);
-        left -= 1;
     }
-    Request::NoRequest
+    None
 }

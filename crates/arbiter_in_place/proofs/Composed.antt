@@ -2,6 +2,8 @@
 use mathlib.Core.Path.{◌≡◌, refl, ap, sym, ◌∙◌, subst}
 use mathlib.Core.List.{List}
 use mathlib.Core.Option.{Option, some, none}
+use Rattle.std.specs.Prelude as prelude
+use Rattle.std.specs.Prelude.{Result}
 use Prim.Native.Nat.{ℕ, zero, suc, ◌<◌}
 use native.Mathlib.Omega.{arith}
 use Rattle.model.specs.Sizes.{Sizes, paper}
@@ -13,11 +15,11 @@ use Rattle.model.proofs.basics.Tests.{none_not_some}
 use Rattle.model.proofs.one_slot.Rules.{keeps-facts, keeps-holds, keeps-noted}
 use Rattle.model.proofs.one_slot.Kept.{slot_kept}
 use Rattle.model.proofs.one_slot.Chains.{own_notes_nothing, choice-below}
-use Rattle.layout.specs.Calls.{request_in}
+use Rattle.layout.specs.Calls.{request_in, reply_in}
 use Rattle.layout.specs.Counts.{ByQueue}
-use Rattle.layout.specs.declared.Request.{Request}
 use Rattle.layout.specs.declared.Regs.{Regs}
-use Rattle.layout.specs.declared.Reply.{Reply}
+use Rattle.layout.specs.declared.Outcome.{Outcome}
+use Rattle.layout.specs.declared.Refusal.{Refusal}
 use Rattle.layout.specs.Views.{Arrays, state_in}
 use Rattle.layout.specs.Figures.{figures_in, Figures}
 use Rattle.slot_in_place.specs.Says.{Ready, answer_in}
@@ -70,10 +72,10 @@ module _ {regs : Regs} {m : Arrays} {counts : ByQueue} {store : List ℕ} (r : R
   abbrev call : Call
   call = arbiter_call x arrival
 
-  module _ (regs₁ : Regs) (answered : Reply) {m' : Arrays} {counts' : ByQueue} {store' : List ℕ}
+  module _ (regs₁ : Regs) (answered : Result Outcome Refusal) {m' : Arrays} {counts' : ByQueue} {store' : List ℕ}
       (one : OneSlotSays regs m store call (advanced_to regs₁ answered) m' counts' store') where
     abbrev n : ℕ
-    n = answered.number
+    n = (reply_in answered).number
 
     abbrev asked : Option ℕ
     asked = taken n (choice x arrival)
@@ -101,7 +103,7 @@ module _ {regs : Regs} {m : Arrays} {counts : ByQueue} {store : List ℕ} (r : R
     asked-below (suc k) q e = absurd (none_not_some q e)
 
     -- All together: with the queue noted that was asked.
-    pub composed : {regs' : Regs} (told : Request) → request_in told ≡ asked → regs' ≡ noted (request_in told) regs₁
+    pub composed : {regs' : Regs} (told : prelude.Option ℕ) → request_in told ≡ asked → regs' ≡ noted (request_in told) regs₁
         → ArbiterAdvanceSays regs m store arrival (record { reply = answered; asked = told }) regs' m' store'
         × Ready regs' m' counts' store'
     composed {regs'} told asks e = (
@@ -124,10 +126,7 @@ module _ {regs : Regs} {m : Arrays} {counts : ByQueue} {store : List ℕ} (r : R
         is : regs' ≡ noted asked regs₁
         is = e ∙ ap (λ (o : Option ℕ). noted o regs₁) asks
 
--- A number is 0 or it is not.
-pub taken-0 : {A : Type 0} (n : ℕ) (o : Option A) → n ≡ 0 → o ≡ taken n o
-taken-0 n o e = sym (ap (λ (k : ℕ). taken k o) e)
-
+-- A slot that was refused took nothing.
 pub taken_not : {A : Type 0} (n : ℕ) (o : Option A) → (n ≡ 0 → ⊥) → none ≡ taken n o
 taken_not zero o f = absurd (f refl)
 taken_not (suc n) o f = refl

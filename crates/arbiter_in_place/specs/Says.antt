@@ -5,7 +5,7 @@ use Rattle.model.specs.Sizes.{paper}
 use Rattle.model.specs.State.{Byte}
 use Rattle.model.specs.Lists.{taken}
 use Rattle.model.specs.Arbiter.{choice, last_after, arbiter_slot}
-use Rattle.layout.specs.Calls.{request_in}
+use Rattle.layout.specs.Calls.{request_in, reply_in}
 use Rattle.layout.specs.declared.Regs.{Regs}
 use Rattle.layout.specs.Views.{Arrays, state_in}
 use Rattle.slot_in_place.specs.declared.Advanced.{Advanced}
@@ -35,5 +35,5 @@ advanced_by regs r = record { regs = regs; reply = r.reply }
 pub record ArbiterAdvanceSays (regs : Regs) (m : Arrays) (store : List ℕ) (arrival : Option Byte) (r : Arbitrated)
     (regs' : Regs) (m' : Arrays) (store' : List ℕ) : Type 0 where
   pub answer-is : answer_in (advanced_by regs' r) m' store' ≡ arbiter_slot paper (state_in regs m) store arrival
-  pub asked_is : request_in r.asked ≡ taken r.reply.number (choice (state_in regs m) arrival)
-  pub as_given : (r.reply.number ≡ 0 → ⊥) → (regs' ≡ regs) × (m' ≡ m)
+  pub asked_is : request_in r.asked ≡ taken (reply_in r.reply).number (choice (state_in regs m) arrival)
+  pub as_given : ((reply_in r.reply).number ≡ 0 → ⊥) → (regs' ≡ regs) × (m' ≡ m)

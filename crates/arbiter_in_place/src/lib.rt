@@ -1,61 +1,48 @@
 // One slot on lent arrays in which the round robin arbiter chooses: the choice, the slot of its call, and the last one
-// asked noted.
+// asked noted. The arrays are lent one by one: crates/layout says why.
 #![tactic(auto)]
 
 ghost use Rattle.std.specs.Prelude.{◌≡◌};
 ghost use Rattle.model.specs.Lists.{taken};
-ghost use Rattle.layout.specs.Calls.{arrival_in, request_in};
+ghost use Rattle.layout.specs.Calls.{arrival_in, request_in, reply_in};
 ghost use Rattle.layout.specs.Lent.{given, found, left, counts_given, counts_left};
 ghost use Rattle.layout.specs.Views.{regs_in};
 ghost use Rattle.slot_in_place.specs.Says.{Ready};
 ghost use Rattle.arbiter_in_place.specs.Says.{noted, ArbiterAdvanceSays};
 
 use layout::{
-    Arrival, CellArray, CountArray, HeadArray, RegArray, Regs, Reply, Request, RingArray, TailArray,
+    Byte, Call, CellArray, CountArray, HeadArray, RegArray, Regs, Reply, RingArray, TailArray,
 };
 
-// What the arbiter asked of a slot that answered this number: of a refused one nothing.
-fn asked_of(number: u8, request: Request) -> Request
-    ensures { request_in result ≡ taken number (request_in request) }
+// What the arbiter asked of a slot that told this: of a refused one nothing.
+fn asked_of(reply: Reply, request: Option<u8>) -> Option<u8>
+    ensures { request_in result ≡ taken (reply_in reply).number (request_in request) }
 {
-    if number == 0 {
-        return request;
-    }
-    Request::NoRequest
+    reply.ok().and(request)
 }
 
 // The queue that was asked, where one was, as the last one asked.
-fn note(regs: &mut RegArray, asked: Request)
+fn note(regs: &mut RegArray, asked: Option<u8>)
     ensures { regs_in regs.new ≡ noted (request_in asked) (regs_in regs.old) }
 {
-    match asked {
-        Request::NoRequest => {}
-        Request::Asks(queue) => {
-            let now = layout::regs_in(regs);
-            layout::put_regs(
-                regs,
-                Regs {
-                    queues: now.queues,
-                    block: now.block,
-                    depth: now.depth,
-                    phase: now.phase,
-                    tail_fill: now.tail_fill,
-                    head_fill: now.head_fill,
-                    tail_mark: now.tail_mark,
-                    head_mark: now.head_mark,
-                    last_asked: queue as usize,
-                },
-            );
-        }
+    if let Some(queue) = asked {
+        let now = layout::regs_in(regs);
+        layout::put_regs(
+            regs,
+            Regs {
+                last_asked: queue as usize,
+                ..now
+            },
+        );
     }
 }
 
 // What the slot tells, and the queue that was asked. The last one asked does not tell it, since "none" and "the same
 // again" leave the same.
-#[derive(Drop)]
+#[derive(Clone, Copy)]
 pub struct Arbitrated {
     pub reply: Reply,
-    pub asked: Request,
+    pub asked: Option<u8>,
 }
 
 // The slot itself is a run of one call.
@@ -69,7 +56,7 @@ pub fn advance(
     firsts: &mut RingArray,
     stored: &mut RingArray,
     regs: &mut RegArray,
-    arrival: Arrival,
+    arrival: Option<Byte>,
     store: &mut [u8],
 ) -> Arbitrated
     requires { Ready (regs_in regs.old) (given tail head cells firsts stored)
@@ -82,7 +69,7 @@ pub fn advance(
 {
     let before = layout::regs_in(regs);
     let request = arbiter_choice::choose(tails, heads, owing, stored, before, arrival);
-    let calls = [run_words::call_word(arrival, request)];
+    let calls = [run_words::call_word(Call { arrival, request })];
     let mut answers = [0u64; 1];
     let reply = run_in_place::run_calls(
         tail,
@@ -98,10 +85,7 @@ pub fn advance(
         &mut answers,
         store,
     );
-    let asked = asked_of(reply.number, request);
+    let asked = asked_of(reply, request);
     note(regs, asked);
-    Arbitrated {
-        reply: reply,
-        asked: asked,
-    }
+    Arbitrated { reply, asked }
 }

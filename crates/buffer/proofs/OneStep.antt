@@ -8,12 +8,11 @@ use Prim.Native.Nat.{ℕ, ◌+◌, ◌-◌, ◌<◌, ◌≤◌, max}
 use native.Mathlib.Omega.{arith}
 use lib.ListN.{length, take, drop, set, get_or, length-append}
 use borrow.Author.Tests.{eqb-false, ltb-false}
-use Rattle.model.specs.Basics.{choose}
 use Rattle.model.specs.Sizes.{span, lookahead, head_size}
 use Rattle.model.specs.State.{Byte, Cell, empty, owed, Ring, ring, State, count_of, head_bytes, ring_of}
 use Rattle.model.specs.Slot.{oldest_cell, head_without, delivery_of, delivery, arriving, is_owed}
-use Rattle.model.specs.Slot.{moves, store_written, head_read, after_arrival}
-use Rattle.model.specs.Slot.{after_request, after_write, after_read, after_phase, leaves_uncovered, head_full}
+use Rattle.model.specs.Slot.{head_read, after_arrival}
+use Rattle.model.specs.Slot.{after_request, after_read, leaves_uncovered, head_full}
 use Rattle.layout.specs.Lengths.{tail_places, head_places, cell_places}
 use Rattle.layout.specs.Entries.{bytes_in, counts_in, cell_for, cell_of, cells_in}
 use Rattle.layout.proofs.Entries.{bytes-length}
@@ -27,8 +26,8 @@ use Rattle.layout.proofs.Rings.{ring-at}
 use Rattle.layout.proofs.States.{state_from_lem, same-state}
 use Rattle.slot_steps.specs.declared.CellDelivered.{CellDelivered}
 use Rattle.slot_steps.specs.declared.Asked.{Asked}
-use Rattle.slot_steps.specs.Says.{DeliverSays, ArriveSays, AskSays, WriteSays, ReadSays}
-use Rattle.slot_steps.proofs.Moving.{oldest_cell_lem, moving-tail, moving-rings, moving-store, moving-head, moving-read}
+use Rattle.slot_steps.specs.Says.{DeliverSays, ArriveSays, AskSays, ReadSays}
+use Rattle.slot_steps.proofs.Moving.{oldest_cell_lem, moving-head, moving-read}
 use Rattle.slot_steps.proofs.Moving.{asked-cell, asked-tail}
 use Rattle.buffer.specs.declared.State as code
 use Rattle.buffer.specs.Says.{state_of}
@@ -61,12 +60,6 @@ youngest_stored n xs c h =
 module _ (s : code.State) where
   abbrev x : State
   x = state_of s
-
-  -- 5.
-  pub turned : (p : ℕ) → p ≡ choose (moves x) 0 (x.phase + 1)
-      → state_from_lem x.sizes p x.tail x.head x.cells x.rings x.tail_mark x.head_mark x.last_asked
-      ≡ after_phase x
-  turned p e = same-state x.sizes e refl refl refl refl refl refl refl
 
   module _ (fits : CachesFit x) where
     pub limits : InLimits s.regs
@@ -154,32 +147,18 @@ module _ (s : code.State) where
   ring-here q l = ring-at s.regs.queues s.firsts s.stored q l
 
   -- 4. The write.
-  module _ {written : Option ℕ} {store : List ℕ} where
-    pub block_to_write : WriteAsks x written store → (q : ℕ) → written ≡ some q
-        → (q < s.regs.queues)
-        × (s.regs.block ≤ count_of q x.tail)
-        × (counts_in s.firsts q < s.regs.depth)
-        × (counts_in s.stored q < s.regs.depth)
-    block_to_write asks q e = (
-      asks.known q e,
-      asks.block_there q e,
-      subst (λ (r : Ring). r.first < s.regs.depth) (ring-here q (asks.known q e)) (asks.first_in q e),
-      subst (λ (r : Ring). r.count < s.regs.depth) (ring-here q (asks.known q e)) (asks.ring-room q e),
-    )
-
-    module _ {n : ℕ} {tail₁ stored₁ store₁ : List ℕ}
-        (says : WriteSays x.sizes s.regs.tail_fill written s.firsts s.stored stored₁ s.tail tail₁
-        store store₁ n) where
-      pub written-state :
-          state_from_lem x.sizes x.phase (bytes_in n tail₁) x.head x.cells
-          (rings_in x.sizes.Q s.firsts stored₁) x.tail_mark x.head_mark x.last_asked
-          ≡ after_write written x
-      written-state =
-          same-state x.sizes refl (says.tail_is ∙ moving-tail written x) refl refl
-          (says.rings_are ∙ moving-rings written x) refl refl refl
-
-      pub written-store : store₁ ≡ store_written written x store
-      written-store = says.store_is ∙ moving-store written x store
+  pub block_to_write : {written : Option ℕ} {store : List ℕ} → WriteAsks x written store
+      → (q : ℕ) → written ≡ some q
+      → (q < s.regs.queues)
+      × (s.regs.block ≤ count_of q x.tail)
+      × (counts_in s.firsts q < s.regs.depth)
+      × (counts_in s.stored q < s.regs.depth)
+  block_to_write asks q e = (
+    asks.known q e,
+    asks.block_there q e,
+    subst (λ (r : Ring). r.first < s.regs.depth) (ring-here q (asks.known q e)) (asks.first_in q e),
+    subst (λ (r : Ring). r.count < s.regs.depth) (ring-here q (asks.known q e)) (asks.ring-room q e),
+  )
 
   -- 4. The read.
   module _ {readQueue : Option ℕ} {store : List ℕ} where

@@ -8,34 +8,33 @@ use native.Mathlib.Omega.{arith}
 use lib.Dec.{ltb}
 use lib.ListN.{length, replicate, length-replicate}
 use borrow.Author.Tests.{ltb-true, ltb-false}
+use Rattle.std.specs.Prelude.{Result, Ok, Err}
 use Rattle.model.specs.Sizes.{paper, store_bytes}
 use Rattle.model.specs.State.{State, keeps}
 use Rattle.model.specs.Slot as model
-use Rattle.model.specs.Slot.{Call, number_alone, Answer, wrote_store, halves_taken, refusal, carried_out, accept, refuse}
+use Rattle.model.specs.Slot.{Call, Answer, wrote_store, halves_taken, refusal, carried_out, accept, refuse}
 use Rattle.model.specs.Slot.{answer, slot}
 use Rattle.model.proofs.basics.Tests.{by_test}
 use Rattle.model.proofs.one_slot.Rules.{keeps-facts, keeps-holds}
 use Rattle.model.proofs.one_slot.Accepted.{RefusedOrAccepted, was_refused, was_accepted, outcome, refusal-told}
 use Rattle.model.proofs.one_slot.Kept.{Kept, slot_kept}
 use Rattle.model.proofs.one_slot.Calls.{answer-is}
-use Rattle.layout.specs.Calls.{call_in, reply_in}
-use Rattle.layout.specs.declared.Arrival.TheVariants.{NoArrival}
-use Rattle.layout.specs.declared.Request.TheVariants.{NoRequest}
-use Rattle.layout.specs.declared.Reply.{Reply}
+use Rattle.layout.specs.Calls.{call_in, reply_in, number_of, number_in}
+use Rattle.layout.specs.declared.Refusal.{Refusal}
+use Rattle.layout.proofs.Refusals.{refusal_is_some}
 use Rattle.slot_plan.specs.declared.Plan.{Plan}
 use Rattle.slot_checked.specs.Says.{PlanCheckedSays}
 use Rattle.slot_checked.proofs.Judging.{three, two}
 use Rattle.buffer.specs.declared.State as code
 use Rattle.buffer.specs.declared.Judged.{Judged}
 use Rattle.buffer.specs.declared.Slotted.{Slotted}
-use Rattle.buffer.specs.Says.{state_of, JudgeSays, answer_of, SlotSays, StepSays}
+use Rattle.buffer.specs.Says.{state_of, arrival_number_judged, request_number_judged, JudgeSays, answer_of, SlotSays, StepSays}
 
--- What is judged of a slot, by its plan: the slot's number tells of 3 and 2 whether they are ruled out, and what is
--- carried out has the numbers of the halves.
-module _ (x : State) (bytes : ℕ) (call : Call) {p : Plan} (says : PlanCheckedSays x bytes call p) where
-  number_rules_out : (p.number ≡ 3 → ⊥) → (p.number ≡ 2 → ⊥)
-      → (keeps paper x ≡ true) × (store_bytes x.sizes ≤ bytes)
-  number_rules_out not-3 not-2 =
+-- What is judged of a slot, by its plan: the slot's number tells of 3 and 2 whether they are ruled out.
+module _ {x : State} {bytes : ℕ} {call : Call} where
+  number_rules_out : {r : Result Plan Refusal} → PlanCheckedSays x bytes call r
+      → (number_in r ≡ 3 → ⊥) → (number_in r ≡ 2 → ⊥) → (keeps paper x ≡ true) × (store_bytes x.sizes ≤ bytes)
+  number_rules_out {r} says not-3 not-2 =
       by_test (keeps paper x)
       (λ t. by_test (ltb bytes (store_bytes x.sizes))
       (λ u. absurd (not-2 (number ∙ ap (λ (a : Answer). a.reply.number)
@@ -49,62 +48,51 @@ module _ (x : State) (bytes : ℕ) (call : Call) {p : Plan} (says : PlanCheckedS
       long : length store ≡ bytes
       long = length-replicate bytes 0
 
-      number : p.number ≡ (slot paper x store call).reply.number
+      number : number_in r ≡ (slot paper x store call).reply.number
       number = says.number_is store long
 
-  pub judged_stopped : (p.number ≡ 0 → ⊥)
-      → JudgeSays x bytes call (record {
-        number = p.number;
-        arrival_number = 0;
-        request_number = 0;
-        arrival = NoArrival;
-        request = NoRequest;
-      })
-  judged_stopped n = record {
+  pub judged_stopped : {refusal : Refusal} → PlanCheckedSays x bytes call (Err refusal)
+      → JudgeSays x bytes call (Err refusal)
+  judged_stopped says = record {
     number_is = says.number_is;
-    arrival-number_is = λ z. absurd (n z);
-    request-number_is = λ z. absurd (n z);
-    left_is = λ z. absurd (n z);
-    stopped_is = λ f. (refl, refl, refl);
-    can_step = number_rules_out;
+    judged_is = says.plan_is;
+    can_step = number_rules_out says;
   }
 
-  pub judged_going_on : p.number ≡ 0
-      → JudgeSays x bytes call (record {
-        number = 0;
-        arrival_number = p.arrival_number;
-        request_number = p.request_number;
-        arrival = p.arrival;
-        request = p.request;
-      })
-  judged_going_on z = record {
-    number_is = λ store l. sym z ∙ says.number_is store l;
-    arrival-number_is = λ _ store l. ap (λ (a : Answer). a.reply.arrival_number) (says.carries z store l);
-    request-number_is = λ _ store l. ap (λ (a : Answer). a.reply.request_number) (says.carries z store l);
-    left_is = λ _. says.left_is z;
-    stopped_is = λ f. absurd (f refl);
-    can_step = λ not-3 not-2. number_rules_out (λ e. omega (arith, e, z)) (λ e. omega (arith, e, z));
+  pub judged_going_on : {p : Plan} → PlanCheckedSays x bytes call (Ok p)
+      → JudgeSays x bytes call (Ok (record {
+        arrival_dropped = p.arrival_dropped;
+        request_dropped = p.request_dropped;
+        call = p.call;
+      }))
+  judged_going_on says = record {
+    number_is = says.number_is;
+    judged_is = record {
+      arrival-number_is = λ store l. ap (λ (a : Answer). a.reply.arrival_number) (says.plan_is.carries store l);
+      request-number_is = λ store l. ap (λ (a : Answer). a.reply.request_number) (says.plan_is.carries store l);
+      left_is = says.plan_is.left_is;
+    };
+    can_step = number_rules_out says;
   }
 
-pub judged_clear : {x : State} (store : List ℕ) {call : Call} {r : Judged} → JudgeSays x (length store) call r
-    → r.number ≡ 0 → refusal paper x store call ≡ 0
-judged_clear {x} store {call} says z = sym (refusal-told paper x store call) ∙ sym (says.number_is store refl) ∙ z
+pub judged_clear : {x : State} (store : List ℕ) {call : Call} {j : Judged} → JudgeSays x (length store) call (Ok j)
+    → refusal paper x store call ≡ 0
+judged_clear {x} store {call} says = sym (refusal-told paper x store call) ∙ sym (says.number_is store refl)
 
 -- The slot is what is carried out of what is left of its call.
-pub judged_carries : {x : State} (store : List ℕ) (call : Call) {r : Judged} → JudgeSays x (length store) call r
-    → r.number ≡ 0
-    → carried_out r.arrival_number r.request_number x store (call_in r.arrival r.request)
+pub judged_carries : {x : State} (store : List ℕ) (call : Call) {j : Judged} → JudgeSays x (length store) call (Ok j)
+    → carried_out (arrival_number_judged j) (request_number_judged j) x store (call_in j.call)
     ≡ slot paper x store call
-judged_carries {x} store call {r} says z =
-    ap (carried_out r.arrival_number r.request_number x store) (says.left_is z)
-    ∙ ap (λ (n : ℕ). carried_out n r.request_number x store (halves_taken x call))
-    (says.arrival-number_is z store refl ∙ ap (λ (a : Answer). a.reply.arrival_number) is_accepted)
+judged_carries {x} store call {j} says =
+    ap (carried_out (arrival_number_judged j) (request_number_judged j) x store) says.judged_is.left_is
+    ∙ ap (λ (n : ℕ). carried_out n (request_number_judged j) x store (halves_taken x call))
+    (says.judged_is.arrival-number_is store refl ∙ ap (λ (a : Answer). a.reply.arrival_number) is_accepted)
     ∙ ap (λ (n : ℕ). carried_out (accept x store call).reply.arrival_number n x store (halves_taken x call))
-    (says.request-number_is z store refl ∙ ap (λ (a : Answer). a.reply.request_number) is_accepted)
+    (says.judged_is.request-number_is store refl ∙ ap (λ (a : Answer). a.reply.request_number) is_accepted)
     ∙ sym is_accepted
   where
     is_accepted : slot paper x store call ≡ accept x store call
-    is_accepted = ap (λ (n : ℕ). answer n x store call) (judged_clear store says z)
+    is_accepted = ap (λ (n : ℕ). answer n x store call) (judged_clear store says)
 
 -- A slot that is refused before anything moves.
 refused-slot : (x : State) (store : List ℕ) (call : Call) {n : ℕ} → n ≡ (slot paper x store call).reply.number
@@ -115,13 +103,11 @@ refused-slot x store call {n} e f = go (slot paper x store call) (outcome paper 
     go a (was_refused m e) z = ap (λ (k : ℕ). refuse k x store) z
     go a (was_accepted e) z = absurd (f z)
 
-pub refused_says : (s : code.State) (store : List ℕ) (call : Call) {n : ℕ} {told : Reply}
-    → n ≡ (slot paper (state_of s) store call).reply.number → (n ≡ 0 → ⊥) → reply_in told ≡ number_alone n
-    → SlotSays s store call (record { state = s; reply = told }) store
-refused_says s store call e f alone = record {
-  promised =
-      ap (λ (r : model.Reply). record { reply = r; state = state_of s; store = store }) alone
-      ∙ refused-slot (state_of s) store call e f;
+pub refused_says : (s : code.State) (store : List ℕ) (call : Call) {refusal : Refusal}
+    → number_of refusal ≡ (slot paper (state_of s) store call).reply.number
+    → SlotSays s store call (record { state = s; reply = Err refusal }) store
+refused_says s store call {refusal} e = record {
+  promised = refused-slot (state_of s) store call e (refusal_is_some refusal);
   as_given = λ g. refl;
 }
 

@@ -1,18 +1,17 @@
 -- What the buffer promises, by the model's own definitions: the making of a state, and one slot.
-use Rattle.std.specs.Prelude.{◌≡◌, true, List, ℕ, ◌<◌, ◌≤◌, length, get_or}
+use Rattle.std.specs.Prelude.{◌≡◌, true, List, ℕ, ◌<◌, ◌≤◌, length, get_or, Result, IfOk}
 use Rattle.model.specs.Basics.{choose}
-use Rattle.model.specs.Sizes.{sizes, paper_limits, accepts, paper, store_bytes}
+use Rattle.model.specs.Sizes.{sizes, paper, store_bytes}
 use Rattle.model.specs.State.{State, empty, fresh, making_number, keeps}
 use Rattle.model.specs.Slot.{Call, halves_taken, Answer, slot}
-use Rattle.model.specs.Calls.{idle}
 use Rattle.model.specs.Lists.{Promised}
 use Rattle.layout.specs.Lengths.{cell_places}
-use Rattle.layout.specs.Calls.{call_in, reply_in}
+use Rattle.layout.specs.Calls.{call_in, reply_in, number_in}
+use Rattle.layout.specs.declared.Refusal.{Refusal}
 use Rattle.layout.specs.Entries.{cell_of}
 use Rattle.layout.specs.Views.{Arrays, arrays, state_in}
 use Rattle.layout.specs.Fresh.{fresh_regs, fresh_arrays}
 use Rattle.buffer.specs.declared.State as code
-use Rattle.buffer.specs.declared.Made.{Made}
 use Rattle.buffer.specs.declared.Judged.{Judged}
 use Rattle.buffer.specs.declared.Slotted.{Slotted}
 
@@ -34,28 +33,40 @@ fresh_state q b k = record {
   stored = fresh_arrays.stored;
 }
 
--- "A making of a state checks 1 only." Accepted sizes give the fresh state, the paper's and the record itself, every
--- field; sizes outside the limits give 1 and one fixed record. "A fresh state has all L cells empty from the start":
--- each place of the array is.
-pub record MakeSays (q b k : ℕ) (r : Made) : Type 0 where
-  pub number_is : r.number ≡ making_number paper (sizes q b k)
-  pub record_is : r.state ≡ choose (accepts paper_limits (sizes q b k)) (fresh_state q b k) (fresh_state 0 0 0)
-  pub fresh-is : accepts paper_limits (sizes q b k) ≡ true → state_of r.state ≡ fresh paper (sizes q b k)
-  pub cells_empty : (i : ℕ) → i < cell_places → cell_of (get_or r.state.cells i 0) ≡ empty
+-- A state as it was made: the fresh one, the paper's and the record itself, every field. "A fresh state has all L cells
+-- empty from the start": each place of the array is.
+pub record IsMade (q b k : ℕ) (s : code.State) : Type 0 where
+  pub record_is : s ≡ fresh_state q b k
+  pub fresh-is : state_of s ≡ fresh paper (sizes q b k)
+  pub cells_empty : (i : ℕ) → i < cell_places → cell_of (get_or s.cells i 0) ≡ empty
 
--- What judging a slot promises, of any state and any store of so many bytes: the very number that the slot answers; of
--- a slot that goes on those of its halves, and what is left of them. `can_step`: where it is neither 3 nor 2, the state
--- keeps the rules and the store is long enough.
-pub record JudgeSays (x : State) (bytes : ℕ) (call : Call) (r : Judged) : Type 0 where
-  pub number_is : (store : List ℕ) → length store ≡ bytes → r.number ≡ (slot paper x store call).reply.number
-  pub arrival-number_is : r.number ≡ 0 → (store : List ℕ) → length store ≡ bytes
-      → r.arrival_number ≡ (slot paper x store call).reply.arrival_number
-  pub request-number_is : r.number ≡ 0 → (store : List ℕ) → length store ≡ bytes
-      → r.request_number ≡ (slot paper x store call).reply.request_number
-  pub left_is : r.number ≡ 0 → call_in r.arrival r.request ≡ halves_taken x call
-  pub stopped_is : (r.number ≡ 0 → ⊥)
-      → (r.arrival_number ≡ 0) × (r.request_number ≡ 0) × (call_in r.arrival r.request ≡ idle)
-  pub can_step : (r.number ≡ 3 → ⊥) → (r.number ≡ 2 → ⊥) → (keeps paper x ≡ true) × (store_bytes x.sizes ≤ bytes)
+-- "A making of a state checks 1 only." Accepted sizes give the fresh state; sizes outside the limits give 1.
+pub record MakeSays (q b k : ℕ) (r : Result code.State Refusal) : Type 0 where
+  pub number_is : number_in r ≡ making_number paper (sizes q b k)
+  pub made_is : IfOk r (λ s. IsMade q b k s)
+
+-- The numbers of the halves that a slot drops, or 0.
+abbrev pub arrival_number_judged : Judged → ℕ
+arrival_number_judged j = choose j.arrival_dropped 5 0
+
+abbrev pub request_number_judged : Judged → ℕ
+request_number_judged j = choose j.request_dropped 7 0
+
+-- What is judged of a slot that is not refused: the numbers of its halves, and what is left of them.
+pub record IsJudged (x : State) (bytes : ℕ) (call : Call) (j : Judged) : Type 0 where
+  pub arrival-number_is : (store : List ℕ) → length store ≡ bytes
+      → arrival_number_judged j ≡ (slot paper x store call).reply.arrival_number
+  pub request-number_is : (store : List ℕ) → length store ≡ bytes
+      → request_number_judged j ≡ (slot paper x store call).reply.request_number
+  pub left_is : call_in j.call ≡ halves_taken x call
+
+-- What judging a slot promises, of any state and any store of so many bytes: the very number that the slot answers, and
+-- of a slot that goes on what it takes. `can_step`: where the number is neither 3 nor 2, the state keeps the rules and
+-- the store is long enough.
+pub record JudgeSays (x : State) (bytes : ℕ) (call : Call) (r : Result Judged Refusal) : Type 0 where
+  pub number_is : (store : List ℕ) → length store ≡ bytes → number_in r ≡ (slot paper x store call).reply.number
+  pub judged_is : IfOk r (λ j. IsJudged x bytes call j)
+  pub can_step : (number_in r ≡ 3 → ⊥) → (number_in r ≡ 2 → ⊥) → (keeps paper x ≡ true) × (store_bytes x.sizes ≤ bytes)
 
 -- A slot's answer in the model's terms.
 abbrev pub answer_of : Slotted → List ℕ → Answer
@@ -65,7 +76,7 @@ answer_of r store = record { reply = reply_in r.reply; state = state_of r.state;
 -- refusal the very record comes back, places past a fill included.
 pub record SlotSays (s : code.State) (store : List ℕ) (call : Call) (r : Slotted) (store' : List ℕ) : Type 0 where
   pub promised : Promised paper (state_of s) store call (answer_of r store')
-  pub as_given : (r.reply.number ≡ 0 → ⊥) → r.state ≡ s
+  pub as_given : ((reply_in r.reply).number ≡ 0 → ⊥) → r.state ≡ s
 
 -- The same of a step, and that what it leaves can be stepped again.
 pub record StepSays (s : code.State) (store : List ℕ) (call : Call) (r : Slotted) (store' : List ℕ) : Type 0 where

@@ -20,5 +20,5 @@ arbiter_answer_of r store = record { reply = reply_in r.reply; state = state_of 
 pub record ArbiterSlotSays (s : code.State) (store : List ℕ) (arrival : Option Byte) (r : ArbiterSlotted)
     (store' : List ℕ) : Type 0 where
   pub promised : arbiter_answer_of r store' ≡ arbiter_slot paper (state_of s) store arrival
-  pub asked_is : request_in r.asked ≡ taken r.reply.number (choice (state_of s) arrival)
-  pub as_given : (r.reply.number ≡ 0 → ⊥) → r.state ≡ s
+  pub asked_is : request_in r.asked ≡ taken (reply_in r.reply).number (choice (state_of s) arrival)
+  pub as_given : ((reply_in r.reply).number ≡ 0 → ⊥) → r.state ≡ s

@@ -1,5 +1,5 @@
 // One slot of a state by value in which the round robin arbiter chooses, of any state and any store. The state's arrays
-// are copied, lent to crates/arbiter_checked and put back.
+// are lent to crates/arbiter_checked.
 #![tactic(auto)]
 
 ghost use Rattle.layout.specs.Calls.{arrival_in};
@@ -7,36 +7,30 @@ ghost use Rattle.buffer_arbiter.specs.Says.{ArbiterSlotSays};
 ghost use Rattle.buffer_arbiter.specs.Served.{CallsServed};
 
 use buffer::State;
-use layout::{Arrival, QUEUE_PLACES, REGS, Reply, Request};
+use layout::{Byte, QUEUE_PLACES, REGS, Reply};
 
-// What the slot hands back: what `State::slot` does, and the queue that was asked, or none.
-#[derive(Drop)]
+/// What the slot hands back: what `State::slot` does, and the queue that was asked, or none.
+#[derive(Clone, Copy)]
 pub struct ArbiterSlotted {
     pub state: State,
     pub reply: Reply,
-    pub asked: Request,
+    pub asked: Option<u8>,
 }
 
-pub fn slot(state: State, arrival: Arrival, store: &mut [u8]) -> ArbiterSlotted
+pub fn slot(mut state: State, arrival: Option<Byte>, store: &mut [u8]) -> ArbiterSlotted
     ensures { ArbiterSlotSays state store.old (arrival_in arrival) result store.new }
 {
-    let regs = state.regs;
-    let mut tail = state.tail;
-    let mut head = state.head;
-    let mut cells = state.cells;
-    let mut firsts = state.firsts;
-    let mut stored = state.stored;
     let mut tails = [0; QUEUE_PLACES];
     let mut heads = [0; QUEUE_PLACES];
     let mut owing = [0; QUEUE_PLACES];
     let mut lent = [0; REGS];
-    layout::put_regs(&mut lent, regs);
+    layout::put_regs(&mut lent, state.regs);
     let answer = arbiter_checked::slot(
-        &mut tail,
-        &mut head,
-        &mut cells,
-        &mut firsts,
-        &mut stored,
+        &mut state.tail,
+        &mut state.head,
+        &mut state.cells,
+        &mut state.firsts,
+        &mut state.stored,
         &mut tails,
         &mut heads,
         &mut owing,
@@ -44,20 +38,11 @@ pub fn slot(state: State, arrival: Arrival, store: &mut [u8]) -> ArbiterSlotted
         arrival,
         store,
     );
-    let next = layout::regs_in(&lent);
-    let reply = answer.reply;
-    let asked = answer.asked;
+    state.regs = layout::regs_in(&lent);
     ArbiterSlotted {
-        state: State {
-            regs: next,
-            tail: tail,
-            head: head,
-            cells: cells,
-            firsts: firsts,
-            stored: stored,
-        },
-        reply: reply,
-        asked: asked,
+        state,
+        reply: answer.reply,
+        asked: answer.asked,
     }
 }
 

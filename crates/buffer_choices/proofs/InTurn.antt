@@ -10,19 +10,18 @@ use Prim.Native.Nat.{ℕ, ◌+◌, ◌-◌, ◌*◌, ◌<◌}
 use native.Mathlib.Omega.{arith}
 use lib.Dec.{ltb}
 use lib.ListN.{length, take, drop}
+use Rattle.std.specs.Prelude.{Ok}
 use Rattle.model.specs.Basics.{choose}
 use Rattle.model.specs.Sizes.{paper}
 use Rattle.model.specs.State.{Byte, Cell, empty, State, owed_of, head_bytes, blocks}
 use Rattle.model.specs.Slot.{Call, after_arrival, is_owed, swaps, early_arrival, late_arrival, after_request}
-use Rattle.model.specs.Slot.{queue_to_write, after_write, store_written, Refill, refill_of, joined, asked, wrote}
+use Rattle.model.specs.Slot.{queue_to_write, after_write, store_written, after_read, Refill, refill_of, joined, asked, wrote}
 use Rattle.model.proofs.basics.Cells.{owed_append}
 use Rattle.model.proofs.one_slot.Accepted.{Accepted, accepted-facts}
-use Rattle.layout.specs.Calls.{chosen_in, arrival_in, request_in, refill_in, call_in}
-use Rattle.layout.specs.declared.Arrival.{Arrival}
-use Rattle.layout.specs.declared.Request.{Request}
+use Rattle.layout.specs.Calls.{chosen_in, arrival_in, refill_in, call_in}
 use Rattle.buffer.specs.declared.State as code
 use Rattle.buffer.specs.declared.Judged.{Judged}
-use Rattle.buffer.specs.Says.{state_of, JudgeSays}
+use Rattle.buffer.specs.Says.{state_of, JudgeSays, arrival_number_judged, request_number_judged}
 use Rattle.buffer.specs.OneStep.{opened, closed, CachesFit, AskAsks, WriteAsks, ReadAsks}
 use Rattle.buffer.proofs.OneStep.{without-last}
 use Rattle.buffer.proofs.InTurn.{opened-closed, can_deliver, can_arrive, state_2, can_ask, can_arrive_late, state_3}
@@ -82,31 +81,34 @@ module _ {x : State} {store : List ℕ} {call : Call} (accepted : Accepted paper
           (state_4 x store call accepted delivered early_is arrived asked_is late_is filled write_told wrote-is
           store_is)
 
--- What is left of a call that was judged 0 is accepted.
-pub judged_accepted : {x : State} (store : List ℕ) (call : Call) {r : Judged} → JudgeSays x (length store) call r
-    → r.number ≡ 0 → Accepted paper x store (call_in r.arrival r.request)
-judged_accepted {x} store call says z =
-    subst (Accepted paper x store) (sym (says.left_is z))
-    (accepted-facts paper x store call (judged_clear store says z))
+-- The queue that is read, as the code takes it out of the choice.
+pub reads_as : {read queue : Option ℕ} → read ≡ queue → {x : State} {store : List ℕ} → ReadAsks x queue store
+    → ReadAsks x read store
+reads_as same {x} {store} asks = subst (λ (q : Option ℕ). ReadAsks x q store) (sym same) asks
+
+pub read_as : {read queue : Option ℕ} → read ≡ queue → (x : State) (store : List ℕ) {y : State}
+    → y ≡ after_read read x store → y ≡ after_read queue x store
+read_as same x store is = is ∙ ap (λ (q : Option ℕ). after_read q x store) same
+
+-- What is left of a call that is not refused is accepted.
+pub judged_accepted : {x : State} (store : List ℕ) (call : Call) {j : Judged} → JudgeSays x (length store) call (Ok j)
+    → Accepted paper x store (call_in j.call)
+judged_accepted {x} store call says =
+    subst (Accepted paper x store) (sym says.judged_is.left_is)
+    (accepted-facts paper x store call (judged_clear store says))
 
 -- Calls that meet the contracts make the slot.
 module _ (s : code.State) (store : List ℕ) (asked-call : Call) (judged : Judged) (g : StepAnswers)
-    (says : JudgeSays (state_of s) (length store) asked-call judged) (clear : judged.number ≡ 0)
-    (by : ByContract s store judged.arrival judged.request g) where
+    (says : JudgeSays (state_of s) (length store) asked-call (Ok judged))
+    (by : ByContract s store judged.call g) where
   abbrev x : State
   x = state_of s
 
-  abbrev arrival : Arrival
-  arrival = judged.arrival
-
-  abbrev request : Request
-  request = judged.request
-
   abbrev call : Call
-  call = call_in judged.arrival judged.request
+  call = call_in judged.call
 
   accepted : Accepted paper x store call
-  accepted = judged_accepted store asked-call says clear
+  accepted = judged_accepted store asked-call says
 
   state_1 : state_of g.after_deliver ≡ opened x
   state_1 = (by.deliver_says (can_deliver x store call accepted)).0
@@ -120,12 +122,12 @@ module _ (s : code.State) (store : List ℕ) (asked-call : Call) (judged : Judge
   arrived : state_of g.after_early ≡ after_arrival (arrival_in g.early) (state_of g.after_deliver)
   arrived = by.arrive_early_says to_arrive
 
-  to_ask : AskAsks (state_of g.after_early) g.owing (request_in request)
+  to_ask : AskAsks (state_of g.after_early) g.owing call.request
   to_ask =
       can_ask x store call accepted state_1 early_is arrived g.owing
       (owing_told accepted state_1 early_is arrived by.owes_says)
 
-  asked_is : state_of g.after_ask ≡ after_request (request_in request) (closed (state_of g.after_early))
+  asked_is : state_of g.after_ask ≡ after_request call.request (closed (state_of g.after_early))
   asked_is = by.ask_says to_ask
 
   to_arrive_late : CachesFit (state_of g.after_ask)
@@ -154,7 +156,7 @@ module _ (s : code.State) (store : List ℕ) (asked-call : Call) (judged : Judge
       read_told accepted state_1 early_is arrived asked_is late_is filled by.to_write_says wrote-is store_is
       by.to_read_says
 
-  to_read : ReadAsks (state_of g.after_write) (chosen_in g.refill.queue) g.store
+  to_read : ReadAsks (state_of g.after_write) (refill_in g.refill).queue g.store
   to_read =
       can_read x store call accepted state_1 early_is arrived asked_is late_is filled written_is wrote-is store_is
       read_is
@@ -175,9 +177,9 @@ module _ (s : code.State) (store : List ℕ) (asked-call : Call) (judged : Judge
     turn_can = to_turn;
     answer-is =
         all_in_turn x store call accepted state_1 early_is arrived asked_is late_is filled written_is wrote-is store_is
-        read_is (by.read_says to_read) judged.arrival_number judged.request_number (by.turn_says to_turn)
+        read_is (by.read_says to_read) (arrival_number_judged judged) (request_number_judged judged) (by.turn_says to_turn)
         (by.deliver_says (can_deliver x store call accepted)).1
-        ∙ judged_carries store asked-call says clear;
+        ∙ judged_carries store asked-call says;
   }
 
 pub steps_in_turn : StepsInTurn

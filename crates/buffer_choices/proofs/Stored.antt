@@ -1,11 +1,11 @@
 -- The blocks of a queue as the array of counts has them: one past the last queue has none, nor has one past the array.
 use mathlib.Core.Path.{◌≡◌}
 use mathlib.Core.List.{List}
-use Prim.Native.Nat.{ℕ, ◌*◌, ◌≤◌, ◌<◌}
-use native.Mathlib.Nat.{mul-le-mul}
+use Prim.Native.Nat.{ℕ, ◌≤◌, ◌<◌, min}
+use native.Mathlib.Omega.{arith}
 use lib.Dec.{ltb}
 use lib.ListN.{length, get_or}
-use borrow.Author.Tests.{ltb-true, ltb-false, lt-ltb, le-ltb}
+use borrow.Author.Tests.{ltb-true, ltb-false, lt-ltb}
 use Rattle.model.specs.State.{ring_of}
 use Rattle.model.proofs.basics.Tests.{by_test}
 use Rattle.layout.specs.Entries.{counts_in}
@@ -15,11 +15,11 @@ use Rattle.layout.proofs.Rings.{ring-at, ring-past}
 use Rattle.buffer_choices.proofs.Fullest.{counts_past}
 
 module _ (queues : ℕ) (stored : List ℕ) (q : ℕ) where
-  pub blocks-past : queues ≤ q → blocks_in queues stored q ≡ 0
-  blocks-past h = rw (le-ltb q queues h)
-
-  pub blocks-beyond : length stored ≤ q → blocks_in queues stored q ≡ 0
-  blocks-beyond h = by_test (ltb q queues) (λ t. rw (t, counts_past stored q h)) (λ t. rw t)
+  pub blocks_outside : min queues (length stored) ≤ q → blocks_in queues stored q ≡ 0
+  blocks_outside h =
+      by_test (ltb q queues)
+      (λ t. rw (t, counts_past stored q (omega (arith, h, ltb-true q queues t))))
+      (λ t. rw t)
 
   pub blocks-known : q < queues → blocks_in queues stored q ≡ get_or stored q 0
   unfolding counts_in
@@ -31,7 +31,3 @@ module _ (queues : ℕ) (stored : List ℕ) (q : ℕ) where
       by_test (ltb q queues)
       (λ t. rw (t, ring-at queues firsts stored q (ltb-true q queues t)))
       (λ t. rw (t, ring-past queues firsts stored q (ltb-false q queues t)))
-
--- As bytes they are few where a block is.
-pub stored_small : (b n : ℕ) → b ≤ 2018 → n ≤ 255 → b * n ≤ 514590
-stored_small b n h g = let p : b * n ≤ 2018 * 255 = mul-le-mul h g in p

@@ -3,36 +3,30 @@
 use mathlib.Core.Path.{◌≡◌, refl, ap, sym, ◌∙◌}
 use mathlib.Core.Bool.{Bool, true, false, ◌&&◌, not}
 use mathlib.Core.List.{List, [], ◌∷◌}
-use mathlib.Core.Option.{Option, some, none}
 use Prim.Native.Nat.{ℕ, ◌+◌, ◌*◌, ◌/◌, ◌%◌, ◌≤◌, min}
-use native.Mathlib.Nat.{add-mul, mul_comm, mul-zero, div-add-mod', add-mul-mod_self_left, mul-mod_left}
+use native.Mathlib.Nat.{add-mul, mul_comm, div-add-mod', add-mul-mod_self_left, mul-mod_left}
 use native.Mathlib.Nat.{eq_of_mul-eq-mul_right}
 use native.Mathlib.Omega.{arith}
 use lib.Dec.{eqb, ltb}
-use lib.ListN.{length, get_or}
+use lib.ListN.{length, take, get_or}
+use lib.Seq.{length-take-le}
 use borrow.Author.Tests.{eqb-true, eqb-false, eq-eqb, ne_eqb, lt-ltb}
-use Rattle.model.specs.State.{Byte, byte, State, tail_bytes, blocks}
-use Rattle.model.specs.Slot.{is_owed, is_full, swap_tests, swaps}
-use Rattle.model.proofs.basics.Tests.{by_test, eqb_same}
+use Rattle.model.specs.State.{State, tail_bytes, blocks}
+use Rattle.model.specs.Slot.{is_owed, is_full}
+use Rattle.model.proofs.basics.Tests.{by_test}
 use Rattle.model.proofs.basics.AllOf.{all_true_not}
 use Rattle.layout.specs.Lengths.{tail_places}
-use Rattle.layout.specs.Entries.{bytes_in, counts_in}
+use Rattle.layout.specs.Entries.{counts_in}
 use Rattle.layout.specs.declared.Regs.{Regs}
 use Rattle.layout.specs.Views.{Arrays, state_in}
 use Rattle.layout.specs.Figures.{blocks_in}
-use Rattle.buffer_choices.specs.Says.{TallyOfAll, swaps_at}
+use Rattle.buffer_choices.specs.Says.{swaps_at}
 use Rattle.buffer_choices.proofs.Tallies.{tally_low}
 use Rattle.buffer_choices.proofs.Stored.{blocks-are}
-use Rattle.buffer_choices.proofs.Choosing.{counts_are}
+use Rattle.buffer_choices.proofs.Choosing.{CountsFirst, counts_are}
 
 -- n tail bytes and k blocks of b bytes, where d blocks have place.
 module _ (n k b d : ℕ) where
-  pub no_block_full : b ≡ 0 → eqb n 0 ≡ eqb (n + b * k) (d * b)
-  no_block_full e =
-      let bytes : n ≡ n + b * k = omega (arith, ap (λ (c : ℕ). c * k) e) in
-      let none_there : 0 ≡ d * b = omega (arith, ap (λ (c : ℕ). d * c) e, mul-zero d) in
-      ap (λ (m : ℕ). eqb m 0) bytes ∙ ap (eqb (n + b * k)) none_there
-
   pub part_block_not_full : (n % b ≡ 0 → ⊥) → false ≡ eqb (n + b * k) (d * b)
   part_block_not_full h =
       sym (ne_eqb (n + b * k) (d * b) (λ e.
@@ -54,12 +48,18 @@ module _ (n k b d : ℕ) where
 -- Tail bytes and blocks as the code counts them.
 module _ (regs : Regs) (m : Arrays) (q : ℕ) where
   pub tail_counted : length m.tail ≡ tail_places → {counts : List ℕ} {n : ℕ} → n ≡ min regs.tail_fill tail_places
-      → TallyOfAll counts (bytes_in n m.tail)
+      → CountsFirst counts n m.tail
       → (get_or counts q 0 ≡ tail_bytes (state_in regs m) q) × (get_or counts q 0 ≤ tail_places)
   unfolding counts_in
   tail_counted long {counts} {n} e w = (
     ap (λ (f : ℕ → ℕ). f q) (counts_are regs.tail_fill tail_places n counts m.tail long e w),
-    omega (arith, e, tally_low counts m.tail n q (omega (arith, e, long)) w),
+    omega (
+      arith,
+      e,
+      long,
+      tally_low counts (take n m.tail) (length (take n m.tail)) q (omega arith) w,
+      length-take-le n m.tail (omega (arith, e, long)),
+    ),
   )
 
   pub full-counted : {bytes n : ℕ} {full : Bool} → bytes ≡ tail_bytes (state_in regs m) q
@@ -76,9 +76,6 @@ module _ (x : State) (q : ℕ) where
   abbrev tests : List Bool
   tests = is_full x q ∷ not (is_owed x q) ∷ ltb 0 (tail_bytes x q) ∷ []
 
-  pub no_byte_swaps_not : tail_bytes x q ≡ 0 → false ≡ swaps_at x q
-  no_byte_swaps_not e = sym (all_true_not tests 2 (ap (ltb 0) e))
-
   pub room_swaps_not : is_full x q ≡ false → false ≡ swaps_at x q
   room_swaps_not t = sym (all_true_not tests 0 t)
 
@@ -90,16 +87,3 @@ module _ (x : State) (q : ℕ) where
       and_true : (b : Bool) → (b && true) ≡ b
       and_true true = refl
       and_true false = refl
-
--- And of a call: arrival and request must be of one queue.
-module _ (x : State) where
-  pub no_request_swaps_not : (arrival : Option Byte) → false ≡ swaps x arrival none
-  no_request_swaps_not none = refl
-  no_request_swaps_not (some y) = refl
-
-  pub elsewhere_swaps_not : (q v p : ℕ) → (q ≡ p → ⊥) → false ≡ swaps x (some (byte q v)) (some p)
-  elsewhere_swaps_not q v p h =
-      sym (all_true_not (swap_tests x (byte q v) p) 1 (ne_eqb p q (λ e. h (sym e))))
-
-  pub swaps-there : (q v p : ℕ) → q ≡ p → swaps_at x q ≡ swaps x (some (byte q v)) (some p)
-  swaps-there q v p e = rw (← e, eqb_same q)

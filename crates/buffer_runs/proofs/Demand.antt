@@ -1,7 +1,7 @@
 -- Demand 3 over calls of every kind, and the high marks that they leave: a slot, a step, a run, a stretch of idle slots
 -- or a slot of the arbiter's that meets its contract is the model's own, so that the slots of a chain are a chain of
 -- the model, of which the model has shown both. `mixed_calls_meet` says it.
-use mathlib.Core.Path.{◌≡◌, sym, ◌∙◌, subst}
+use mathlib.Core.Path.{◌≡◌, sym, subst}
 use mathlib.Core.Bool.{true}
 use mathlib.Core.List.{List, ◌++◌}
 use Prim.Native.Nat.{ℕ}
@@ -44,17 +44,17 @@ is_chain (by_idle {s = s} {store = store} {r = r} says rest) =
 is_chain (by_arbiter {arrival = arrival} says rest) = arbiters_slot arrival says.promised (is_chain rest)
 
 pub mixed_calls_meet : MixedCallsMeet
-mixed_calls_meet q b k made store steps last m zero c = (
+mixed_calls_meet q b k first store steps last m c = (
   meets,
   sentences (sizes q b k) (accepted steps) meets.bytes,
   (marks_exact paper).every_chain (sizes q b k) store steps (state_of last) chain,
 )
   where
     ok : accepts paper_limits (sizes q b k) ≡ true
-    ok = made_accepted paper (sizes q b k) (sym m.number_is ∙ zero)
+    ok = made_accepted paper (sizes q b k) (sym m.number_is)
 
     chain : Chain paper (fresh paper (sizes q b k)) store steps (state_of last)
-    chain = subst (λ (x : State). Chain paper x store steps (state_of last)) (m.fresh-is ok) (is_chain c)
+    chain = subst (λ (x : State). Chain paper x store steps (state_of last)) m.made_is.fresh-is (is_chain c)
 
     meets : ListMeets (sizes q b k) store steps
     meets = every_chain paper_limits (sizes q b k) store steps (state_of last) ok chain

@@ -2,7 +2,7 @@
 -- contract of making a state and each next one that of a slot, a step, a run of many slots, a stretch of idle slots or
 -- a slot in which the round robin arbiter chooses, in any order, "each slot getting state and store exactly as the one
 -- before left them", refused ones included. It cites the contracts alone, so that it holds of whatever meets them.
-use Rattle.std.specs.Prelude.{◌≡◌, List, [], ◌∷◌, ◌++◌, ℕ}
+use Rattle.std.specs.Prelude.{List, [], ◌∷◌, ◌++◌, ℕ, Ok}
 use Rattle.std.proofs.Math.Option.{Option}
 use Rattle.model.specs.Sizes.{sizes, paper}
 use Rattle.model.specs.State.{Byte}
@@ -14,7 +14,6 @@ use Rattle.model.specs.Demand.{ListMeets, Sentences}
 use Rattle.model.specs.HighMarks.{GreatestFills}
 use Rattle.run_checked.specs.Says.{calls_run}
 use Rattle.buffer.specs.declared.State as code
-use Rattle.buffer.specs.declared.Made.{Made}
 use Rattle.buffer.specs.declared.Slotted.{Slotted}
 use Rattle.buffer.specs.Says.{state_of, MakeSays, answer_of, SlotSays, StepSays}
 use Rattle.buffer_arbiter.specs.declared.ArbiterSlotted.{ArbiterSlotted}
@@ -59,8 +58,8 @@ pub data MixedCalls : code.State → List ℕ → List Step → code.State → T
 -- that "each is now exactly the greatest fill since the fresh state" (request 2.8).
 abbrev pub MixedCallsMeet : Type 0
 MixedCallsMeet =
-    (q b k : ℕ) (made : Made) (store : List ℕ) (steps : List Step) (last : code.State)
-    → MakeSays q b k made → made.number ≡ 0 → MixedCalls made.state store steps last
+    (q b k : ℕ) (first : code.State) (store : List ℕ) (steps : List Step) (last : code.State)
+    → MakeSays q b k (Ok first) → MixedCalls first store steps last
     → ListMeets (sizes q b k) store steps
     × Sentences (sizes q b k) (accepted steps)
     × GreatestFills (accepted steps) (state_of last)

@@ -6,11 +6,12 @@ ghost use Rattle.std.specs.Prelude.{◌≡◌};
 ghost use Rattle.by_value.specs.Says.{DrivenIs, DroveSays};
 
 use buffer::{Slotted, State};
-use layout::Regs;
+use layout::{Outcome, Regs};
 
-// What a list answers: 0 and the high marks of the state that it leaves; or 1 and 0, where the sizes are refused.
+// What a list answers: 0 and the high marks of the state that it leaves; or 1 and 0, where the sizes are refused: to C a
+// refusal is its number.
 #[repr(C)]
-#[derive(Drop)]
+#[derive(Clone, Copy)]
 pub struct Driven {
     pub number: u8,
     pub tail_mark: usize,
@@ -39,17 +40,6 @@ fn finished(regs: Regs) -> Driven
     }
 }
 
-// A state as the answer of no slot.
-fn at_rest(state: State) -> Slotted
-    ensures { result.state ≡ state }
-{
-    let none = layout::number_alone(0);
-    Slotted {
-        state: state,
-        reply: none,
-    }
-}
-
 // One checked slot by value for each call.
 #[unsafe(no_mangle)]
 pub extern "C" fn by_value_slots(
@@ -63,22 +53,18 @@ pub extern "C" fn by_value_slots(
     ensures { DroveSays queues block depth calls.now answers.old answers.new
         store.old store.new result }
 {
-    let made = State::make(queues, block, depth);
-    if made.number != 0 {
+    let Ok(state) = State::make(queues, block, depth) else {
         return refused();
+    };
+    // The last answer holds the state: to take it out of each one would be one more copy of 20 KB a slot.
+    let mut last = Slotted {
+        state,
+        reply: Ok(Outcome::default()),
+    };
+    let n = calls.len().min(answers.len());
+    for (i, &call) in calls[..n].iter().enumerate() {
+        last = last.state.slot(run_words::call_in(call), store);
+        answers[i] = run_words::answer_word(last.reply);
     }
-    let n = minmax::smaller(calls.len(), answers.len());
-    let mut r = at_rest(made.state);
-    let mut i: usize = 0;
-    while i < n {
-        let state = r.state;
-        let call = calls[i];
-        let arrival = run_words::arrival_in(call);
-        let request = run_words::request_in(call);
-        r = state.slot(arrival, request, store);
-        let reply = r.reply;
-        answers[i] = run_words::answer_word(reply);
-        i += 1;
-    }
-    finished(r.state.regs)
+    finished(last.state.regs)
 }

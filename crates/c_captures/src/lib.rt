@@ -4,7 +4,6 @@
 ghost use Rattle.c_captures.specs.Says.{CaptureConverted};
 
 use c_scripts::NumbersPut;
-use captures::Conversion;
 
 // A capture as a script at the front of the output: 0 and how many bytes it has; or the refusal and 0.
 pub fn capture_to_script(
@@ -17,15 +16,11 @@ pub fn capture_to_script(
     ensures { CaptureConverted queues block depth capture.now output.old result
         output.new }
 {
-    let converted = captures::to_script(queues, block, depth, capture, output);
-    match converted {
-        Conversion::Written(length) => NumbersPut {
-            length: length,
-            number: 0,
-        },
-        Conversion::Refused(number) => NumbersPut {
+    match captures::to_script(queues, block, depth, capture, output) {
+        Ok(length) => NumbersPut { length, number: 0 },
+        Err(refusal) => NumbersPut {
             length: 0,
-            number: number,
+            number: u8::from(refusal),
         },
     }
 }

@@ -4,30 +4,28 @@
 use mathlib.Core.Path.{◌≡◌, refl, ap, sym, ◌∙◌}
 use mathlib.Core.Bool.{Bool, true, false, ◌&&◌}
 use mathlib.Core.List.{List, [], ◌∷◌}
-use mathlib.Core.Option.{Option, some, none}
+use mathlib.Core.Option.{some}
 use Prim.Native.Nat.{ℕ, ◌%◌, ◌<◌, ◌≤◌}
 use native.Mathlib.Nat.{mod-lt, mod-eq_of_lt}
 use native.Mathlib.Omega.{arith}
 use lib.Dec.{eqb, ltb}
 use lib.ListN.{length, take, get_or}
 use borrow.Author.Tests.{eqb-true, eqb-false, eq-eqb, ne_eqb, ltb-true, ltb-false}
-use Rattle.model.proofs.basics.Tests.{by_test, by_option, and_left, and_right, true_not_false}
+use Rattle.model.proofs.basics.Tests.{by_test, and_left, and_right, true_not_false}
 use Rattle.script_commands.specs.Commands.{Operand, size, queue, value, count, width, bound}
 use Rattle.script_commands.specs.Commands.{Kind, sizes, idle, arrive, ask, both, idles, end, row, kind_of}
 use Rattle.script_commands.specs.Commands.{Command, command, Fitting}
-use Rattle.script_commands.proofs.Table.{kind_of_code, code_of_kind}
+use Rattle.script_commands.proofs.Table.{code_of_kind}
 use Rattle.c_scripts.specs.declared.Numbers.{Numbers}
-use Rattle.c_scripts.specs.Says.{numbers_of, given, fitting, command_for, cut, cut_command, same_operands}
+use Rattle.c_scripts.specs.Says.{numbers_of, given, fitting, command_for, cut}
 
--- The command of a code, cut to its widths.
-pub known_named : (j : Kind) (n : Numbers) → n.code ≡ (row j).code
-    → some (command j (cut (row j).operands (given n))) ≡ cut_command (kind_of n.code) n
-known_named j n e = rw (e, kind_of_code j)
+-- Two commands as numbers have the same operands.
+abbrev pub same_operands : Numbers → Numbers → Bool
+same_operands a b = eqb a.one b.one && (eqb a.two b.two && eqb a.three b.three)
 
-pub none_named : (n : Numbers) → ((k : Kind) → n.code ≡ (row k).code → ⊥) → none ≡ cut_command (kind_of n.code) n
-none_named n other = by_option (kind_of n.code)
-    (λ e. ap (λ (found : Option Kind). cut_command found n) (sym e))
-    (λ k e. absurd (other k (sym (code_of_kind n.code k e))))
+pub alike : (n : Numbers) → (eqb n.code n.code && same_operands n n) ≡ true
+alike n =
+    rw (eq-eqb n.code n.code refl, eq-eqb n.one n.one refl, eq-eqb n.two n.two refl, eq-eqb n.three n.three refl) refl
 
 -- One number.
 bound-above : (o : Operand) → 0 < bound (width o)

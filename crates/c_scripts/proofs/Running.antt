@@ -1,6 +1,6 @@
 -- The runner's answer as one number: how many bytes were printed, or 0 where the output was too short. It is 1 or more
 -- otherwise, since every script prints a line: its fault, its refusal or its ending.
-use mathlib.Core.Path.{◌≡◌, refl, ap, sym, ◌∙◌}
+use mathlib.Core.Path.{◌≡◌, refl, ap, ◌∙◌}
 use mathlib.Core.Bool.{Bool, true, false}
 use mathlib.Core.List.{List, [], ◌∷◌}
 use mathlib.Core.Option.{Option, some, none}
@@ -8,13 +8,15 @@ use Prim.Native.Nat.{ℕ, zero, suc, ◌≤◌}
 use native.Mathlib.Omega.{arith}
 use lib.Dec.{eqb, ltb}
 use lib.ListN.{length, length-append}
+use Rattle.std.specs.Prelude.{Result, Ok, Err}
+use Rattle.std.specs.Result.{result_unwrap_or}
 use Rattle.model.specs.Basics.{choose}
 use Rattle.model.specs.Lists.{Step, accepted}
 use Rattle.script_commands.specs.Commands as of
 use Rattle.script_commands.specs.Scripts.{judge}
 use Rattle.script_lines.specs.Lines.{Line, ending, fault, line_text, text}
 use Rattle.script_text.specs.Run.{most_bytes, slot_lines, script_steps, sizes_of, start_number, started_lines, script_lines}
-use Rattle.script_runner.specs.declared.Ran.{Ran}
+use Rattle.script_runner.specs.declared.OutputTooShort.{OutputTooShort}
 use Rattle.script_runner.specs.Says.{printed_in, short, ScriptSays}
 use Rattle.c_scripts.specs.Says.{ScriptRan}
 
@@ -54,10 +56,14 @@ chosen : (t : Bool) (n : ℕ) → or_zero (choose t none (some n)) ≡ choose t 
 chosen true n = refl
 chosen false n = refl
 
-pub ran_is : {script store output store' output' : List ℕ} {r answer : Ran}
-    → ScriptSays script store output r store' output' → r ≡ answer
-    → ScriptRan script store output (or_zero (printed_in answer)) store' output'
-ran_is {script} {store} {output} {answer = answer} says is = record {
+told : (r : Result ℕ OutputTooShort) → result_unwrap_or r 0 ≡ or_zero (printed_in r)
+told (Ok n) = refl
+told (Err e) = refl
+
+pub ran_is : {script store output store' output' : List ℕ} {r : Result ℕ OutputTooShort} {n : ℕ}
+    → ScriptSays script store output r store' output' → n ≡ result_unwrap_or r 0
+    → ScriptRan script store output n store' output'
+ran_is {script} {store} {output} {r = r} {n} says is = record {
   printed_is = printed;
   output_is = says.output_is;
   store_is = says.store_is;
@@ -71,8 +77,5 @@ ran_is {script} {store} {output} {answer = answer} says is = record {
     bytes : ℕ
     bytes = length (text lines)
 
-    printed : or_zero (printed_in answer) ≡ choose (short script output) 0 bytes
-    printed =
-        ap (λ (x : Ran). or_zero (printed_in x)) (sym is)
-        ∙ ap or_zero says.answer-is
-        ∙ chosen (short script output) bytes
+    printed : n ≡ choose (short script output) 0 bytes
+    printed = is ∙ told r ∙ ap or_zero says.answer-is ∙ chosen (short script output) bytes

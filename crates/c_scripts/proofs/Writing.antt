@@ -1,98 +1,94 @@
--- A command given as numbers is written as the paper's writer does, or refused first: 12 for a code of no row, 16 for
--- numbers that do not fit it. What is written reads back as the same numbers.
+-- A command given as numbers is written as the paper's writer does, where the numbers name one, and reads back as them.
+use Rattle.std.specs.Prelude.{Result, Ok, Err}
 use mathlib.Core.Path.{◌≡◌, refl, ap, sym, ◌∙◌}
-use mathlib.Core.Bool.{Bool, true, false, not}
+use mathlib.Core.Bool.{true, false, not, ◌&&◌}
 use mathlib.Core.List.{List}
 use mathlib.Core.Option.{Option, some}
 use Prim.Native.Nat.{ℕ}
-use lib.Dec.{ltb}
+use native.Mathlib.Omega.{arith}
+use lib.Dec.{eqb, ltb}
 use lib.ListN.{length}
 use borrow.Author.Tests.{not-false}
 use Rattle.model.proofs.basics.FirstRefusal.{no_refusal_at, when-zero}
-use Rattle.model.proofs.basics.Tests.{by_test, by_option, none_not_some, some_inj}
+use Rattle.model.proofs.basics.Tests.{by_test, by_option, none_not_some, some_inj, true_not_false}
 use Rattle.script_commands.specs.declared.Command as code
-use Rattle.script_commands.specs.Commands.{Kind, row, kind_of, Command, command}
+use Rattle.script_commands.specs.Commands.{Kind, row, kind_of, Command}
 use Rattle.script_commands.specs.Scripts.{read_command, command_bytes}
 use Rattle.script_commands.specs.Values.{command_in}
 use Rattle.script_commands.proofs.ReadBack.{reads_back}
 use Rattle.script_codes.specs.Says.{put_over}
-use Rattle.scripts.specs.declared.Written.{Written}
-use Rattle.scripts.specs.Says.{too_short, CommandWritten}
+use Rattle.scripts.specs.declared.Refusal.{Refusal}
+use Rattle.scripts.specs.declared.Refusal.TheVariants.{DoesNotFit}
+use Rattle.scripts.specs.Says.{too_short, written_number_in, written_length_in, CommandWritten}
 use Rattle.c_scripts.specs.declared.Numbers.{Numbers}
-use Rattle.c_scripts.specs.declared.Named.{Named}
-use Rattle.c_scripts.specs.declared.Named.TheVariants.{Known, Unknown}
-use Rattle.c_scripts.specs.Says.{numbers_of, given, fitting, command_for, bytes_for, write_refusals, write_number}
-use Rattle.c_scripts.specs.Says.{NumbersWritten, NumbersBack, cut, cut_command, named_in, same_operands}
-use Rattle.c_scripts.specs.Says.{is_first, reading_of}
-use Rattle.c_scripts.proofs.Fitting.{fits_by_cutting, operands_fit, cut-is, told_back}
+use Rattle.c_scripts.specs.Says.{given, fitting, command_for, bytes_for, named_number, named_command, CommandNamed}
+use Rattle.c_scripts.specs.Says.{put_of, NumbersWritten, NumbersBack, numbers_of, cut_command, is_first, reading_of}
+use Rattle.c_scripts.specs.Says.{write_refusals, write_number}
+use Rattle.c_scripts.proofs.Fitting.{same_operands, alike, operands_fit, cut-is, told_back}
 
-module _ (n : Numbers) (output : List ℕ) where
-  named_at : {found : Option Kind} → kind_of n.code ≡ found → cut_command (kind_of n.code) n ≡ cut_command found n
-  named_at e = ap (λ (found : Option Kind). cut_command found n) e
+put_number : (w : Result ℕ Refusal) → (put_of w).number ≡ written_number_in w
+put_number (Ok n) = refl
+put_number (Err e) = refl
 
-  -- A code of no row.
-  pub unknown_refused : {r : Named} → named_in r ≡ cut_command (kind_of n.code) n → r ≡ Unknown
-      → NumbersWritten n output (record { length = 0; number = 12 }) output
-  unknown_refused says is = by_option (kind_of n.code)
-      (λ e. record { number_is = rw e; length-is = refl; output_is = refl })
-      (λ k e. absurd (none_not_some _ (ap named_in (sym is) ∙ says ∙ named_at e)))
+put_length : (w : Result ℕ Refusal) → (put_of w).length ≡ written_length_in w
+put_length (Ok n) = refl
+put_length (Err e) = refl
 
-  -- A code of a row, with the command that its numbers name.
-  module _ (c : code.Command) where
-    abbrev Named-by : Kind → Type 0
-    Named-by k = (kind_of n.code ≡ some k) × (command_in c ≡ command k (cut (row k).operands (given n)))
+module _ (n : Numbers) (output : List ℕ) {c : code.Command} (named : CommandNamed n (Ok c)) where
+  -- The code is that of a row, and the numbers fit it.
+  by_kind : {A : Type 0}
+      → ((k : Kind) → kind_of n.code ≡ some k → fitting (row k).operands (given n) ≡ true
+      → command_in c ≡ command_for k n → A)
+      → A
+  by_kind go = by_option (kind_of n.code)
+      (λ e. let z : ◌≡◌ {A = ℕ} 0 12 = named.number_is ∙ ap (λ (found : Option Kind). named_number found n) e in absurd (omega arith))
+      (λ k e. by_test (fitting (row k).operands (given n))
+      (λ fit. go k e fit (some_inj _ _ (named.command_is ∙ ap (λ (found : Option Kind). named_command found n) e ∙ rw fit)))
+      (λ unfit.
+      let z : ◌≡◌ {A = ℕ} 0 16 = named.number_is ∙ ap (λ (found : Option Kind). named_number found n) e ∙ rw unfit in
+      absurd (omega arith)))
 
-    by_kind : {A : Type 0} {r : Named} → named_in r ≡ cut_command (kind_of n.code) n → r ≡ Known c
-        → ((k : Kind) → Named-by k → A) → A
-    by_kind says is go = by_option (kind_of n.code)
-        (λ e. absurd (none_not_some _ (sym (ap named_in (sym is) ∙ says ∙ named_at e))))
-        (λ k e. go k (e, some_inj _ _ (ap named_in (sym is) ∙ says ∙ named_at e)))
+  pub named-written : {w : Result ℕ Refusal} {output' : List ℕ} → CommandWritten c output w output'
+      → NumbersWritten n output (put_of w) output'
+  named-written {w} {output'} written = by_kind (λ k known fit same.
+      by_test (ltb (length output) (length (bytes_for (some k) n)))
+      (λ t.
+      let short : too_short c output ≡ true = rw same t in
+      let number : (put_of w).number ≡ 16 = put_number w ∙ written.number_is ∙ rw short in
+      record {
+        number_is = number ∙ sym (rw (known, fit, t));
+        length-is = put_length w ∙ written.length-is ∙ rw (short, number);
+        output_is = written.output_is ∙ rw (short, number);
+      })
+      (λ t.
+      let room : too_short c output ≡ false = rw same t in
+      let number : (put_of w).number ≡ 0 = put_number w ∙ written.number_is ∙ rw room in
+      record {
+        number_is = number ∙ sym (rw (known, fit, t));
+        length-is = put_length w ∙ written.length-is ∙ rw (room, number, known, same);
+        output_is =
+            written.output_is
+            ∙ rw (room, number, known)
+            (ap (λ (x : Command). put_over (command_bytes x) output) same);
+      }))
 
-    fits_told : (k : Kind) → Named-by k
-        → same_operands (numbers_of (command_in c)) n ≡ fitting (row k).operands (given n)
-    fits_told k named = ap (λ (x : Command). same_operands (numbers_of x) n) named.1 ∙ fits_by_cutting k n
+-- A command that is told as other numbers than were given was cut: the numbers do not fit it.
+pub unfitting : (n : Numbers) (c : code.Command) (back : Numbers) → some (command_in c) ≡ cut_command (kind_of n.code) n
+    → back ≡ numbers_of (command_in c) → true ≡ not (eqb back.code n.code && same_operands back n)
+    → CommandNamed n (Err DoesNotFit)
+unfitting n c back is-cut told other = by_option (kind_of n.code)
+    (λ e. absurd (none_not_some _ (sym (is-cut ∙ ap (λ (found : Option Kind). cut_command found n) e))))
+    (λ k e. by_test (fitting (row k).operands (given n))
+    (λ fit.
+    let same : command_in c ≡ command_for k n =
+    some_inj _ _ (is-cut ∙ ap (λ (found : Option Kind). cut_command found n) e) ∙ cut-is k n fit in
+    absurd (true_not_false true refl (other
+    ∙ ap (λ (x : Numbers). not (eqb x.code n.code && same_operands x n))
+    (told ∙ ap numbers_of same ∙ told_back k n fit e)
+    ∙ ap not (alike n))))
+    (λ unfit. record { number_is = rw (e, unfit); command_is = rw (e, unfit) }))
 
-    pub unfitting_refused : {r : Named} {same : Bool} {back : Numbers}
-        → named_in r ≡ cut_command (kind_of n.code) n → r ≡ Known c
-        → back ≡ numbers_of (command_in c) → same ≡ same_operands back n → same ≡ false
-        → NumbersWritten n output (record { length = 0; number = 16 }) output
-    unfitting_refused says is told tested unlike = by_kind says is (λ k named.
-        let unfit : fitting (row k).operands (given n) ≡ false =
-        sym (fits_told k named)
-        ∙ ap (λ (x : Numbers). same_operands x n) (sym told) ∙ sym tested ∙ unlike in
-        record { number_is = rw (named.0, unfit); length-is = refl; output_is = refl })
-
-    pub fitting-written : {r : Named} {same : Bool} {back : Numbers} {w : Written} {output' : List ℕ}
-        → named_in r ≡ cut_command (kind_of n.code) n → r ≡ Known c
-        → back ≡ numbers_of (command_in c) → same ≡ same_operands back n → same ≡ true
-        → CommandWritten c output w output'
-        → NumbersWritten n output (record { length = w.length; number = w.number }) output'
-    fitting-written {w = w} {output' = output'} says is told tested alike written = by_kind says is (λ k named.
-        let fit : fitting (row k).operands (given n) ≡ true =
-        sym (fits_told k named)
-        ∙ ap (λ (x : Numbers). same_operands x n) (sym told) ∙ sym tested ∙ alike in
-        let same-command : command_in c ≡ command_for k n = named.1 ∙ cut-is k n fit in
-        by_test (ltb (length output) (length (bytes_for (some k) n)))
-        (λ t.
-        let short : too_short c output ≡ true = rw (same-command) t in
-        let number : w.number ≡ 16 = written.number_is ∙ rw short in
-        record {
-          number_is = number ∙ sym (rw (named.0, fit, t));
-          length-is = written.length-is ∙ rw (short, number);
-          output_is = written.output_is ∙ rw (short, number);
-        })
-        (λ t.
-        let room : too_short c output ≡ false = rw (same-command) t in
-        let number : w.number ≡ 0 = written.number_is ∙ rw room in
-        record {
-          number_is = number ∙ sym (rw (named.0, fit, t));
-          length-is = written.length-is ∙ rw (room, number, named.0, same-command);
-          output_is =
-              written.output_is
-              ∙ rw (room, number, named.0)
-              (ap (λ (x : Command). put_over (command_bytes x) output) same-command);
-        }))
-
+-- What is written reads back as the same numbers.
 pub numbers-back : NumbersBack
 numbers-back n output output' w first r k says accepted known in_place reads =
     reads

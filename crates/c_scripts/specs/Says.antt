@@ -1,12 +1,16 @@
 -- The answers of the script functions for C and C++, by the paper's definitions of scripts: commands go in and out as
 -- numbers.
-use Rattle.std.specs.Prelude.{◌≡◌, Bool, true, false, not, ◌&&◌, List, [], ◌∷◌, ℕ, ◌%◌, ◌≤◌, eqb, ltb, length, take, get_or}
+use Rattle.std.specs.Prelude as rust
+use Rattle.std.specs.Prelude.{◌≡◌, Result, Some, None, Ok, Err, Bool, true, false, not, ◌&&◌, List, [], ◌∷◌, ℕ, ◌%◌, ◌≤◌, eqb, ltb, length, take, get_or}
 use Rattle.std.proofs.Math.Option.{Option, some, none}
 use Rattle.model.specs.Basics.{choose, when, first_refusal}
+use Rattle.script_commands.specs.declared.Command as code
 use Rattle.script_commands.specs.Commands.{Operand, width, bound, Kind, row, kind_of, Command, command}
 use Rattle.script_commands.specs.Scripts.{Reading, refused, taken, out_of_place, read_command, Script, command_bytes}
 use Rattle.script_commands.specs.Values.{command_in}
 use Rattle.script_codes.specs.Says.{put_over}
+use Rattle.scripts.specs.declared.Refusal.{Refusal}
+use Rattle.scripts.specs.Says.{number_of}
 use Rattle.script_lines.specs.Lines.{text}
 use Rattle.script_text.specs.Run.{script_lines, script_store}
 use Rattle.script_runner.specs.Says.{short}
@@ -14,8 +18,6 @@ use Rattle.c_scripts.specs.declared.Numbers.{Numbers}
 use Rattle.c_scripts.specs.declared.Fault.{Fault}
 use Rattle.c_scripts.specs.declared.NumbersRead.{NumbersRead}
 use Rattle.c_scripts.specs.declared.NumbersPut.{NumbersPut}
-use Rattle.c_scripts.specs.declared.Named.{Named}
-use Rattle.c_scripts.specs.declared.Named.TheVariants.{Known, Unknown}
 
 -- The number and the offset of a script that was judged.
 abbrev pub fault_of : Script → Fault
@@ -60,6 +62,33 @@ command_for k n = command k (take (length (row k).operands) (given n))
 abbrev pub bytes_for : Option Kind → Numbers → List ℕ
 bytes_for none n = []
 bytes_for (some k) n = command_bytes (command_for k n)
+
+-- The command that numbers name, or the number that refuses them: 12 for a code of no row, as the reader has it; 16 for
+-- numbers that do not fit the command.
+abbrev pub named_number : Option Kind → Numbers → ℕ
+named_number none n = 12
+named_number (some k) n = when (not (fitting (row k).operands (given n))) 16
+
+abbrev pub named_command : Option Kind → Numbers → Option Command
+named_command none n = none
+named_command (some k) n = choose (fitting (row k).operands (given n)) (some (command_for k n)) none
+
+abbrev pub named_number_in : Result code.Command Refusal → ℕ
+named_number_in (Ok c) = 0
+named_number_in (Err e) = number_of e
+
+abbrev pub named_in : Result code.Command Refusal → Option Command
+named_in (Ok c) = some (command_in c)
+named_in (Err e) = none
+
+pub record CommandNamed (n : Numbers) (r : Result code.Command Refusal) : Type 0 where
+  pub number_is : named_number_in r ≡ named_number (kind_of n.code) n
+  pub command_is : named_in r ≡ named_command (kind_of n.code) n
+
+-- A writer's answer as numbers.
+abbrev pub put_of : Result ℕ Refusal → NumbersPut
+put_of (Ok n) = record { length = n; number = 0 }
+put_of (Err e) = record { length = 0; number = number_of e }
 
 -- 12 for a code of no row, as the reader has it; 16 for numbers that do not fit the command; and the paper's own 16,
 -- "output rest too short for the command".
@@ -107,9 +136,6 @@ abbrev pub cut_command : Option Kind → Numbers → Option Command
 cut_command none n = none
 cut_command (some k) n = some (command k (cut (row k).operands (given n)))
 
-abbrev pub named_in : Named → Option Command
-named_in (Known c) = some (command_in c)
-named_in Unknown = none
-
-abbrev pub same_operands : Numbers → Numbers → Bool
-same_operands a b = eqb a.one b.one && (eqb a.two b.two && eqb a.three b.three)
+abbrev pub cut_in : rust.Option code.Command → Option Command
+cut_in (Some c) = some (command_in c)
+cut_in None = none

@@ -6,16 +6,15 @@ ghost use Rattle.script_commands.specs.Commands.{kind_of};
 ghost use Rattle.script_commands.specs.Scripts.{read_command, judge};
 ghost use Rattle.script_commands.specs.Values.{command_in};
 ghost use Rattle.script_text.specs.Run.{output_bound};
-ghost use Rattle.c_scripts.specs.Says.{fault_of, numbers_of, same_operands, named_in, cut_command, is_first};
+ghost use Rattle.c_scripts.specs.Says.{fault_of, numbers_of, put_of, cut_in, cut_command, CommandNamed, is_first};
 ghost use Rattle.c_scripts.specs.Says.{reading_of, NumbersWritten, NumbersBack, ScriptRan};
 
 use script_commands::Command;
-use script_runner::Ran;
-use scripts::Reading;
+use scripts::Refusal;
 
 // A command as numbers: its code and its operands in the table's order, 0 for each that it does not have.
 #[repr(C)]
-#[derive(Clone, Copy)]
+#[derive(Clone, Copy, Debug, Default, PartialEq, Eq)]
 pub struct Numbers {
     pub code: u16,
     pub one: u16,
@@ -23,9 +22,10 @@ pub struct Numbers {
     pub three: u16,
 }
 
-// A script judged: 0, or the number of its first fault and the offset of its place.
+// A script judged: 0, or the number of its first fault and the offset of its place. To C a refusal is its number, here and
+// in what follows.
 #[repr(C)]
-#[derive(Drop)]
+#[derive(Clone, Copy, Debug, Default, PartialEq, Eq)]
 pub struct Fault {
     pub offset: usize,
     pub number: u8,
@@ -33,7 +33,7 @@ pub struct Fault {
 
 // A command read: 0, the command and how many bytes it has; or the refusal and zeros.
 #[repr(C)]
-#[derive(Drop)]
+#[derive(Clone, Copy, Debug, Default, PartialEq, Eq)]
 pub struct NumbersRead {
     pub length: usize,
     pub command: Numbers,
@@ -42,110 +42,111 @@ pub struct NumbersRead {
 
 // A command, or a whole script, written: 0 and how many bytes it has; or the refusal and 0.
 #[repr(C)]
-#[derive(Drop)]
+#[derive(Clone, Copy, Debug, Default, PartialEq, Eq)]
 pub struct NumbersPut {
     pub length: usize,
     pub number: u8,
 }
 
-// The numbers of a command.
-fn numbers_of(command: Command) -> Numbers
-    ensures { result ≡ numbers_of (command_in command) }
-{
-    match command {
-        Command::Sizes(queues, block, depth) => Numbers {
-            code: 16,
-            one: queues as u16,
-            two: block as u16,
-            three: depth as u16,
-        },
-        Command::Idle => Numbers {
-            code: 0,
-            one: 0,
-            two: 0,
-            three: 0,
-        },
-        Command::Arrive(queue, value) => Numbers {
-            code: 1,
-            one: queue as u16,
-            two: value as u16,
-            three: 0,
-        },
-        Command::Ask(queue) => Numbers {
-            code: 2,
-            one: queue as u16,
-            two: 0,
-            three: 0,
-        },
-        Command::Both(queue, value, request) => Numbers {
-            code: 3,
-            one: queue as u16,
-            two: value as u16,
-            three: request as u16,
-        },
-        Command::Idles(count) => Numbers {
-            code: 4,
-            one: count,
-            two: 0,
-            three: 0,
-        },
-        Command::End => Numbers {
-            code: 5,
-            one: 0,
-            two: 0,
-            three: 0,
-        },
+impl From<Result<usize, Refusal>> for NumbersPut {
+    ghost from_gives = { λ written put. put ≡ put_of written };
+
+    fn from(written: Result<usize, Refusal>) -> NumbersPut {
+        match written {
+            Ok(length) => NumbersPut { length, number: 0 },
+            Err(refusal) => NumbersPut {
+                length: 0,
+                number: refusal.into(),
+            },
+        }
     }
 }
 
-// The command that numbers name, or none.
-#[derive(Drop)]
-enum Named {
-    Known(Command),
-    Unknown,
+// The numbers of a command.
+impl From<Command> for Numbers {
+    ghost from_gives = { λ command numbers. numbers ≡ numbers_of (command_in command) };
+
+    fn from(command: Command) -> Numbers {
+        let none = Numbers::default();
+        match command {
+            Command::Sizes(queues, block, depth) => Numbers {
+                code: 16,
+                one: queues.into(),
+                two: block.into(),
+                three: depth.into(),
+            },
+            Command::Idle => Numbers { code: 0, ..none },
+            Command::Arrive(queue, value) => Numbers {
+                code: 1,
+                one: queue.into(),
+                two: value.into(),
+                ..none
+            },
+            Command::Ask(queue) => Numbers {
+                code: 2,
+                one: queue.into(),
+                ..none
+            },
+            Command::Both(queue, value, request) => Numbers {
+                code: 3,
+                one: queue.into(),
+                two: value.into(),
+                three: request.into(),
+            },
+            Command::Idles(count) => Numbers {
+                code: 4,
+                one: count,
+                ..none
+            },
+            Command::End => Numbers { code: 5, ..none },
+        }
+    }
 }
 
-// The command of a code, its operands cut to their widths.
-fn command_named(numbers: Numbers) -> Named
-    ensures { named_in result ≡ cut_command (kind_of numbers.code) numbers }
+// The command of a code, its operands cut to their widths; none for a code of no command.
+fn command_cut(numbers: Numbers) -> Option<Command>
+    ensures { cut_in result ≡ cut_command (kind_of numbers.code) numbers }
 {
-    let code = numbers.code;
     let one = (numbers.one % 256) as u8;
     let two = (numbers.two % 256) as u8;
     let three = (numbers.three % 256) as u8;
-    match code {
-        16 => Named::Known(Command::Sizes(one, two, three)),
-        0 => Named::Known(Command::Idle),
-        1 => Named::Known(Command::Arrive(one, two)),
-        2 => Named::Known(Command::Ask(one)),
-        3 => Named::Known(Command::Both(one, two, three)),
-        4 => Named::Known(Command::Idles(numbers.one)),
-        5 => Named::Known(Command::End),
-        _ => Named::Unknown,
+    match numbers.code {
+        16 => Some(Command::Sizes(one, two, three)),
+        0 => Some(Command::Idle),
+        1 => Some(Command::Arrive(one, two)),
+        2 => Some(Command::Ask(one)),
+        3 => Some(Command::Both(one, two, three)),
+        4 => Some(Command::Idles(numbers.one)),
+        5 => Some(Command::End),
+        _ => None,
     }
 }
 
-// Whether two commands have the same operands.
-fn same_operands(a: Numbers, b: Numbers) -> bool
-    ensures { result ≡ same_operands a b }
-{
-    if a.one != b.one {
-        return false;
+// Numbers that fit are those that the widths cut nothing off.
+impl TryFrom<Numbers> for Command {
+    type Error = Refusal;
+
+    ghost try_from_gives = { CommandNamed };
+
+    fn try_from(numbers: Numbers) -> Result<Command, Refusal> {
+        let command = command_cut(numbers).ok_or(Refusal::UnknownCode)?;
+        if Numbers::from(command) != numbers {
+            return Err(Refusal::DoesNotFit);
+        }
+        Ok(command)
     }
-    if a.two != b.two {
-        return false;
-    }
-    a.three == b.three
 }
 
 // A whole script, before any slot runs.
 pub fn script_judge(script: &[u8]) -> Fault
     ensures { result ≡ fault_of (judge script.now) }
 {
-    let judged = scripts::judge(script);
-    Fault {
-        offset: judged.offset,
-        number: judged.number,
+    match scripts::judge(script) {
+        Ok(()) => Fault::default(),
+        Err(fault) => Fault {
+            offset: fault.offset,
+            number: fault.refusal.into(),
+        },
     }
 }
 
@@ -153,50 +154,26 @@ pub fn script_judge(script: &[u8]) -> Fault
 pub fn script_read(rest: &[u8], first: u8) -> NumbersRead
     ensures { result ≡ reading_of (read_command (is_first first) rest.now) }
 {
-    let reading = scripts::read(rest, first != 0);
-    match reading {
-        Reading::Taken(command, length) => {
-            let numbers = numbers_of(command);
-            NumbersRead {
-                length: length,
-                command: numbers,
-                number: 0,
-            }
-        }
-        Reading::Refused(number) => NumbersRead {
-            length: 0,
-            command: Numbers {
-                code: 0,
-                one: 0,
-                two: 0,
-                three: 0,
-            },
-            number: number,
+    match scripts::read(rest, first != 0) {
+        Ok((command, length)) => NumbersRead {
+            length,
+            command: command.into(),
+            number: 0,
+        },
+        Err(refusal) => NumbersRead {
+            number: refusal.into(),
+            ..NumbersRead::default()
         },
     }
 }
 
-// A command at the front of the output. Operands that fit are those that the widths cut nothing off.
+// A command at the front of the output.
 pub fn script_write(command: Numbers, output: &mut [u8]) -> NumbersPut
     ensures { NumbersWritten command output.old result output.new }
 {
-    let named = command_named(command);
-    let Named::Known(known) = named else {
-        return NumbersPut {
-            length: 0,
-            number: 12,
-        };
-    };
-    if !same_operands(numbers_of(known), command) {
-        return NumbersPut {
-            length: 0,
-            number: 16,
-        };
-    }
-    let written = scripts::write(known, output);
-    NumbersPut {
-        length: written.length,
-        number: written.number,
+    match Command::try_from(command) {
+        Ok(known) => scripts::write(known, output).into(),
+        Err(refusal) => Err(refusal).into(),
     }
 }
 
@@ -213,11 +190,7 @@ pub fn script_run(script: &[u8], store: &mut [u8], output: &mut [u8]) -> usize
     ensures { ScriptRan script.now store.old output.old result
         store.new output.new }
 {
-    let ran = script_runner::run_script(script, store, output);
-    match ran {
-        Ran::Printed(n) => n,
-        Ran::TooShort => 0,
-    }
+    script_runner::run_script(script, store, output).unwrap_or(0)
 }
 
 // What is written reads back, over calls of the two functions, as a contract, so that it is proved with the code.

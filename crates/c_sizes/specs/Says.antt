@@ -4,6 +4,7 @@ use Rattle.std.specs.Prelude.{ℕ, eqb}
 use Rattle.model.specs.Basics.{choose}
 use Rattle.model.specs.Sizes.{Sizes, sizes, paper_limits, accepts, lookahead, tail_size, head_size, store_bytes}
 use Rattle.model.specs.Sizes.{sizing_number, block_for}
+use Rattle.sizing.specs.declared.Memory.{Memory}
 use Rattle.c_sizes.specs.declared.Memories.{Memories}
 
 -- The block of the sizing rule, or 0 beside refusal 11.
@@ -18,6 +19,10 @@ memories_for s = record {
   head = head_size s;
   store = store_bytes s;
 }
+
+-- The memories of the sizing rule as they go to C.
+abbrev pub memories_in : Memory → Memories
+memories_in m = record { lookahead = m.lookahead; tail = m.tail; head = m.head; store = m.store }
 
 abbrev pub no_memories : Memories
 no_memories = record { lookahead = 0; tail = 0; head = 0; store = 0 }

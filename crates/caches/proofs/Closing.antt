@@ -1,17 +1,19 @@
 -- A loop that closes entries up over place p: what it keeps, and that the bytes are then those without the oldest.
 use mathlib.Core.Path.{◌≡◌, refl, ap, sym, ◌∙◌}
-use mathlib.Core.List.{List, ◌∷◌, [], ◌++◌, map, map-append, append_assoc, append-nil}
+use mathlib.Core.List.{List, ◌∷◌, [], ◌++◌, map, map-append}
 use Prim.Native.Nat.{ℕ, zero, suc, ◌+◌, ◌-◌, ◌%◌, ◌≤◌, ◌<◌}
 use native.Mathlib.Numerals.{add-one}
+use native.Mathlib.Nat.{zero-add}
 use native.Mathlib.Omega.{arith}
-use lib.ListN.{length, take, drop, set, get_or, length-set, drop_of_length-le}
+use Rattle.std.specs.List.{copy_within}
+use lib.ListN.{length, take, drop, get_or}
 use lib.ListN.{length-append, length-drop}
-use lib.Seq.{take-take, length-take-le, drop-append-le, get_or-set_other}
-use lib.Seq.{take-add, take-length, take-append-le, take-append-add, drop-append-add}
+use lib.Seq.{take_all, take-append_seam, take-take, length-take-le}
+use lib.Seq.{take-add, take-append-le, take-append-add, drop-append-add}
 use Rattle.model.specs.State.{Byte, count_of}
 use Rattle.layout.specs.Entries.{byte_of, bytes_in}
 use Rattle.caches.specs.Says.{place_of, ClosedUp, TookOldest}
-use Rattle.layout.proofs.Entries.{take_more, take-stored, bytes-length, byte_at}
+use Rattle.layout.proofs.Entries.{bytes-length, byte_at}
 use Rattle.caches.proofs.Places.{without-oldest, oldest_within, oldest_is}
 
 -- A part of the entries, as bytes, is that part of the bytes.
@@ -32,47 +34,9 @@ bytes-closed p n before after h c =
     rw (c.closed, ← take-take p n before h, map-append)
     (rw (map-take p (take n before), map-drop (p + 1) (take n before)))
 
--- The entries have closed up over place p as far as place i, and those after place i are as they were.
-pub record ClosedTo (p i : ℕ) (before after : List ℕ) : Type 0 where
-  pub front : take i after ≡ take p before ++ drop (p + 1) (take (i + 1) before)
-  pub rest : (k : ℕ) → i < k → get_or after k 0 ≡ get_or before k 0
-  pub long : length after ≡ length before
-
-pub closing_starts : (p : ℕ) (xs : List ℕ) → p < length xs → ClosedTo p p xs xs
-closing_starts p xs h =
-    let none_yet : drop (p + 1) (take (p + 1) xs) ≡ [] =
-    drop_of_length-le (take (p + 1) xs) {i = p + 1} (omega (arith, length-take-le (p + 1) xs (omega arith))) in
-    record {
-      front = rw none_yet (sym (append-nil (take p xs)));
-      rest = λ k l. refl;
-      long = refl;
-    }
-
-module _ (p i : ℕ) (before after : List ℕ) (l : p ≤ i) (h : i + 1 < length before) (c : ClosedTo p i before after) where
-  -- The entry at place i + 1 joins the front.
-  joins : drop (p + 1) (take (i + 1 + 1) before) ≡ drop (p + 1) (take (i + 1) before) ++ get_or before (i + 1) 0 ∷ []
-  joins =
-      rw (take_more (i + 1) before h)
-      (drop-append-le (p + 1) (take (i + 1) before) (get_or before (i + 1) 0 ∷ [])
-      (omega (arith, length-take-le (i + 1) before (omega arith))))
-
-  moved : take (i + 1) (set after i (get_or after (i + 1) 0)) ≡ take i after ++ get_or before (i + 1) 0 ∷ []
-  moved =
-      take-stored i after (omega (arith, c.long)) (get_or after (i + 1) 0)
-      ∙ ap (λ (v : ℕ). take i after ++ v ∷ []) (c.rest (i + 1) (omega arith))
-
-  pub closes_one : ClosedTo p (i + 1) before (set after i (get_or after (i + 1) 0))
-  closes_one = record {
-    front = moved ∙ rw (c.front, joins) (append_assoc (take p before) (drop (p + 1) (take (i + 1) before)) _);
-    rest = λ k m.
-        get_or-set_other after i k (get_or after (i + 1) 0) 0 (λ e. omega (arith, e, m)) ∙ c.rest k (omega arith);
-    long = length-set after i (get_or after (i + 1) 0) ∙ c.long;
-  }
-
--- A part of the entries, k from place p on, that has closed up over its first is the whole that has closed up over
--- place p.
+-- A part of the entries, k from place p on, of which all but the first were copied to its start.
 module _ (p k : ℕ) (before ys : List ℕ) (h : p + k ≤ length before) (some_there : 1 ≤ k)
-    (c : ClosedUp 0 (length (take k (drop p before))) (take k (drop p before)) ys) where
+    (moved : ys ≡ copy_within (take k (drop p before)) 1 (length (take k (drop p before))) 0) where
   abbrev front : List ℕ
   front = take p before
 
@@ -88,15 +52,24 @@ module _ (p k : ℕ) (before ys : List ℕ) (h : p + k ≤ length before) (some_
   part_long : length part ≡ k
   part_long = length-take-le k (drop p before) (simp length-drop (omega arith))
 
+  -- The part's entries but the first, and its last.
+  rest_long : length (drop 1 part) ≡ k - 1
+  rest_long = length-drop 1 part ∙ rw part_long
+
+  part_moved : ys ≡ drop 1 part ++ drop (k - 1) part
+  part_moved =
+      let all : take (k - 1) (drop 1 part) ≡ drop 1 part = take_all (k - 1) (drop 1 part) (omega (arith, rest_long)) in
+      moved ∙ rw (part_long, all, zero-add)
+
   part_closed : take (k - 1) ys ≡ drop 1 part
-  part_closed = rw (take-length part, part_long) at c.closed
+  part_closed = rw (part_moved, ← rest_long) (take-append_seam (drop 1 part) _)
 
   whole_front : take (p + (k - 1)) whole ≡ front ++ drop 1 part
   whole_front =
       ap (λ (m : ℕ). take (m + (k - 1)) whole) (sym front_long)
       ∙ take-append-add front (ys ++ drop k (drop p before)) (k - 1)
       ∙ ap (λ (zs : List ℕ). front ++ zs)
-      (take-append-le (k - 1) ys _ (omega (arith, c.same_length, part_long)) ∙ part_closed)
+      (take-append-le (k - 1) ys _ (rw part_moved (simp (length-append, length-drop) (omega (arith, part_long)))) ∙ part_closed)
 
   part_is : drop (p + 1) (take (p + k) before) ≡ drop 1 part
   part_is = rw (take-add p k before) (rw front_long at (drop-append-add front part 1))
@@ -104,9 +77,7 @@ module _ (p k : ℕ) (before ys : List ℕ) (h : p + k ≤ length before) (some_
   pub closed-within : ClosedUp p (p + k) before whole
   closed-within = record {
     closed = let e : p + k - 1 ≡ p + (k - 1) = omega arith in rw (e, part_is) whole_front;
-    same_length =
-        simp (length-append, front_long, length-drop)
-        (omega (arith, c.same_length, part_long));
+    same_length = rw part_moved (simp (length-append, front_long, length-drop) (omega (arith, part_long)));
   }
 
 -- Closing up over the oldest byte of a queue takes it out.

@@ -1,12 +1,13 @@
 -- A pass that sends the b oldest bytes of a queue to the store and closes the others up: what it keeps, byte by byte.
 use mathlib.Core.Path.{◌≡◌, refl, ap, sym, subst, ◌∙◌}
 use mathlib.Core.Bool.{true}
-use mathlib.Core.List.{List, [], ◌∷◌, ◌++◌, append_assoc, append-nil}
+use mathlib.Core.List.{List, [], ◌∷◌, ◌++◌, map, map-append, append_assoc, append-nil}
 use Prim.Native.Nat.{ℕ, zero, suc, ◌+◌, ◌-◌, ◌/◌, ◌%◌, ◌≤◌, ◌<◌}
 use native.Mathlib.Omega.{arith}
 use lib.Dec.{eqb, ltb}
-use lib.ListN.{length, take, drop, set, get_or, length-append, length-take, length-set, take-append-drop}
-use lib.Seq.{take-set-le, set-set}
+use lib.ListN.{length, take, drop, set, get_or, length-append, length-take, length-drop, length-set, take-append-drop}
+use lib.Seq.{take-set-le, set-set, take-add, take-append_seam, length-paste, ext_get_or, get_or-drop}
+use Rattle.std.specs.List.{copy_within}
 use lib.Seq.{take-nil, take_all, length-take-le, take-append-le, drop-cons, set_at, get_or-set_other}
 use mir.Val.{bool_byte}
 use borrow.Author.Tests.{eq-eqb, eqb-true, eqb-false, ltb-true, ltb-false}
@@ -43,6 +44,14 @@ without-kept (suc n) q (x ∷ xs) y h =
     by_test (eqb x.queue q)
     (λ u. rw u (without-kept n q xs y (λ t. omega (arith, rw u at (h t)))))
     (λ u. rw u (ap (λ (zs : List Byte). x ∷ zs) (without-kept (suc n) q xs y (λ t. rw u at (h t)))))
+
+without-append : (n q : ℕ) (xs ys : List Byte) → n ≤ count_of q xs → without n q (xs ++ ys) ≡ without n q xs ++ ys
+without-append zero q xs ys h = refl
+without-append (suc n) q [] ys h = absurd (omega arith)
+without-append (suc n) q (x ∷ xs) ys h =
+    by_test (eqb x.queue q)
+    (λ u. rw u (without-append n q xs ys (omega (arith, rw u at h))))
+    (λ u. rw u (ap (λ (zs : List Byte). x ∷ zs) (without-append (suc n) q xs ys (rw u at h))))
 
 values-sent : (n q : ℕ) (xs : List Byte) (y : Byte) → eqb y.queue q ≡ true → count_of q xs < n
     → take n (values_of q (xs ++ y ∷ [])) ≡ take n (values_of q xs) ++ y.value ∷ []
@@ -256,36 +265,68 @@ module _ (n q b place : ℕ) (before store₀ : List ℕ) where
           same_store = long;
         })
 
-  pub pass_ends : b ≤ count_of q (bytes_in n before) → (after store : List ℕ) (gone i : ℕ)
-      → Passed n q b place before store₀ after store gone i → n ≤ i
-      → WroteOut n q b place before after store₀ store
-  pass_ends enough after store gone i w l =
-      let e : i ≡ n = omega (arith, w.within) in
-      let f : gone ≡ b =
-      rw e at w.gone_is ∙ length-take-le b (values_of q (bytes_in n before)) enough in
-      record {
-        left = rw (e, f) at w.kept_is;
-        stored_is = rw e at w.stored_is;
-        same_length = w.long;
-      }
+  -- The rest, from place i on, is copied to behind the entries that were kept.
+  module _ (h : n ≤ length before) (enough : b ≤ count_of q (bytes_in n before)) (after store : List ℕ) (gone i : ℕ)
+      (w : Passed n q b place before store₀ after store gone i) (all_gone : b ≤ gone) where
+    abbrev behind : List Byte
+    behind = bytes_in (n - i) (drop i before)
 
--- The rest of the pass, from place `start` on with the block gone: whatever was passed before it, it is passed on.
-pub record KeepsOn (n q b place : ℕ) (from store : List ℕ) (gone start : ℕ) (after : List ℕ) (i : ℕ) : Type 0 where
-  pub all_gone : b ≤ gone
-  pub gone_le : gone ≤ i
-  pub long : length after ≡ length from
-  pub passes : (before store₀ : List ℕ) → n ≤ length before → place + b ≤ length store₀
-      → Passed n q b place before store₀ from store gone start
-      → Passed n q b place before store₀ after store gone i
+    abbrev whole : List ℕ
+    whole = copy_within after i n (i - gone)
 
-module _ (n q b place : ℕ) (from store : List ℕ) (gone start : ℕ) where
-  pub keeping_goes : (after : List ℕ) (i : ℕ) → KeepsOn n q b place from store gone start after i → i < n
-      → KeepsOn n q b place from store gone start (set after (i - gone) (get_or after i 0)) (i + 1)
-  keeping_goes after i w l = record {
-    all_gone = w.all_gone;
-    gone_le = omega (arith, w.gone_le);
-    long = length-set after (i - gone) (get_or after i 0) ∙ w.long;
-    passes = λ before store₀ h room p.
-        pass_keeps n q b place before store₀ h room after store gone i (w.passes before store₀ h room p) l
-        (λ e. w.all_gone);
-  }
+    is_gone : gone ≡ b
+    is_gone = omega (arith, all_gone, simp length-take at w.gone_is)
+
+    seen_first : bytes_in n before ≡ bytes_in i before ++ behind
+    unfolding bytes_in
+    seen_first =
+        let e : i + (n - i) ≡ n = omega (arith, w.within) in
+        ap (λ (m : ℕ). bytes_in m before) (sym e)
+        ∙ ap (map byte_of) (take-add i (n - i) before)
+        ∙ map-append byte_of (take i before) (take (n - i) (drop i before))
+
+    same_rest : drop i after ≡ drop i before
+    same_rest =
+        ext_get_or 0 (drop i after) (drop i before)
+        (simp length-drop (omega (arith, w.long)))
+        (λ k l. rw (get_or-drop, get_or-drop) (w.rest (i + k) (omega arith)))
+
+    abbrev kept : List ℕ
+    kept = take (i - gone) after
+
+    kept_long : length kept ≡ i - gone
+    kept_long = length-take-le (i - gone) after (omega (arith, w.long, w.within))
+
+    abbrev moved : List ℕ
+    moved = take (n - i) (drop i after)
+
+    moved_long : length moved ≡ n - i
+    moved_long = length-take-le (n - i) (drop i after) (simp length-drop (omega (arith, w.long)))
+
+    first_whole : take (n - b) whole ≡ kept ++ moved
+    first_whole =
+        let e : n - b ≡ length (kept ++ moved) =
+        simp length-append (omega (arith, kept_long, moved_long, is_gone, w.within, w.gone_le)) in
+        ap (λ (m : ℕ). take m whole) e ∙ take-append_seam (kept ++ moved) _
+
+    enough_seen : b ≤ count_of q (bytes_in i before)
+    enough_seen = omega (arith, is_gone, simp length-take at w.gone_is)
+
+    pub pass_ends : WroteOut n q b place before whole store₀ store
+    unfolding bytes_in
+    pass_ends = record {
+      left =
+          ap (map byte_of) first_whole
+          ∙ map-append byte_of kept moved
+          ∙ ap (λ (xs : List ℕ). bytes_in (i - gone) after ++ map byte_of (take (n - i) xs)) same_rest
+          ∙ ap (λ (xs : List Byte). xs ++ behind) w.kept_is
+          ∙ sym (rw seen_first (without-append b q (bytes_in i before) behind enough_seen));
+      stored_is =
+          let same : take b (values_of q (bytes_in n before)) ≡ take b (values_of q (bytes_in i before)) =
+          rw (seen_first, values-append q (bytes_in i before) behind)
+          (take-append-le b (values_of q (bytes_in i before)) (values_of q behind) enough_seen) in
+          w.stored_is ∙ ap (λ (vs : List ℕ). placed place vs store₀) (sym same);
+      same_length =
+          length-paste after (i - gone) (drop i after) (n - i) (omega (arith, w.long, w.within)) (simp length-drop (omega (arith, w.long)))
+          ∙ w.long;
+    }

@@ -12,37 +12,28 @@ ghost use Rattle.layout.specs.Calls.{chosen_in};
 ghost use Rattle.caches.specs.Says.{NoneOf, place_of, ClosedUp, TookOldest, JoinedBy, WroteOut, ReadIn};
 ghost use Rattle.layout.specs.Counts.{Tally};
 
-use layout::{Chosen, CountArray, QUEUE_PLACES};
+use layout::{CountArray, QUEUE_PLACES};
 
-// Whether one of 32 entries is of queue q: a loop with no early end, fit for vector instructions.
-fn has_queue(entries: &[u16], at: usize, q: u16) -> bool
-    requires { at + 32 ≤ length entries.now }
-    ensures { result ≡ false → NoneOf q entries.now at 32 }
+// Whether an entry of a chunk is of queue q: a fold with no early end, fit for vector instructions.
+fn has_queue(chunk: &[u16], q: u16) -> bool
+    ensures { result ≡ false → NoneOf q chunk.now 0 (length chunk.now) }
 {
-    let mut found: u16 = 0;
-    let mut i: usize = 0;
-    while i < 32 {
-        if entries[at + i] / 256 == q {
-            found = 1;
-        }
-        i += 1;
-    }
-    found == 1
+    chunk
+        .iter()
+        .fold(false, |found, entry| found | (entry / 256 == q))
 }
 
-// A place before which no entry is of queue q.
-fn skip_to(entries: &[u16], n: usize, q: u16) -> usize
-    requires { n ≤ length entries.now }
-    ensures { (result ≤ n) × NoneOf q entries.now 0 result }
+// A place before which no entry is of queue q: that of the first chunk which has one, or the end of the chunks.
+fn skip_to(entries: &[u16], q: u16) -> usize
+    ensures { (result ≤ length entries.now) × NoneOf q entries.now 0 result }
 {
-    let mut i: usize = 0;
-    while i + 32 <= n {
-        if has_queue(entries, i, q) {
-            break;
-        }
-        i += 32;
+    match entries
+        .chunks_exact(32)
+        .position(|chunk| has_queue(chunk, q))
+    {
+        Some(chunks) => chunks * 32,
+        None => entries.len() / 32 * 32,
     }
-    i
 }
 
 // The place of the oldest byte of queue q among the first n, or n.
@@ -50,35 +41,21 @@ pub fn place_of(entries: &[u16], n: usize, q: u16) -> usize
     requires { n ≤ length entries.now }
     ensures { result ≡ place_of q (bytes_in n entries.now) }
 {
-    let mut i = skip_to(entries, n, q);
-    while i < n {
-        if entries[i] / 256 == q {
-            break;
-        }
-        i += 1;
-    }
-    i
-}
-
-// All entries but the first move down by one. The loop starts at 0 and has a function of its own so that it compiles to
-// one `memmove`.
-fn move_down(entries: &mut [u16])
-    requires { 1 ≤ length entries.old }
-    ensures { ClosedUp 0 (length entries.old) entries.old entries.new }
-{
-    let mut i: usize = 0;
-    while i + 1 < entries.len() {
-        entries[i] = entries[i + 1];
-        i += 1;
+    let entries = &entries[..n];
+    let start = skip_to(entries, q);
+    match entries[start..].iter().position(|entry| entry / 256 == q) {
+        Some(further) => start + further,
+        None => n,
     }
 }
 
-// The entries after place p, up to n, move down by one.
+// The entries after place p, up to n, move down by one. They do within a part of their own, so that this compiles to one
+// `memmove`.
 pub fn close_up(entries: &mut [u16], p: usize, n: usize)
     requires { (p < n) × (n ≤ length entries.old) }
     ensures { ClosedUp p n entries.old entries.new }
 {
-    move_down(&mut entries[p..n]);
+    entries[p..n].copy_within(1.., 0);
 }
 
 // The oldest byte of queue q leaves the first n, and its value is returned.
@@ -102,7 +79,7 @@ pub fn join(entries: &mut [u16], n: usize, q: u8, v: u8)
 
 // The b oldest bytes of queue q go from the first n to the store, from `place` on. Until the block is whole, an entry
 // is written to the store and to the cache, whatever its queue: one that does not belong there is overwritten by the
-// next, and there is no branch that goes by the queues.
+// next, and there is no branch that goes by the queues. The loop ends by the bytes gone, so it has its places by hand.
 pub fn write_out(entries: &mut [u16], n: usize, q: u16, b: usize, store: &mut [u8], place: usize)
     requires { (n ≤ length entries.old) × (place + b ≤ length store.old)
         × (b ≤ count_of q (bytes_in n entries.old)) }
@@ -118,10 +95,7 @@ pub fn write_out(entries: &mut [u16], n: usize, q: u16, b: usize, store: &mut [u
         gone += (e / 256 == q) as usize;
         i += 1;
     }
-    while i < n {
-        entries[i - gone] = entries[i];
-        i += 1;
-    }
+    entries.copy_within(i..n, i - gone);
 }
 
 // b bytes of the store, from `place` on, join the first n as bytes of queue q.
@@ -129,10 +103,8 @@ pub fn read_in(entries: &mut [u16], n: usize, q: u8, b: usize, store: &[u8], pla
     requires { (n + b ≤ length entries.old) × (place + b ≤ length store.now) }
     ensures { ReadIn n q b place entries.old entries.new store.now }
 {
-    let mut i: usize = 0;
-    while i < b {
-        entries[n + i] = (q as u16) * 256 + (store[place + i] as u16);
-        i += 1;
+    for (i, &byte) in store[place..place + b].iter().enumerate() {
+        entries[n + i] = (q as u16) * 256 + (byte as u16);
     }
 }
 
@@ -143,11 +115,9 @@ pub fn tally(entries: &[u16], n: usize) -> CountArray
     ensures { Tally result (bytes_in n entries.now) }
 {
     let mut counts = [0u16; QUEUE_PLACES];
-    let mut i: usize = 0;
-    while i < n {
-        let q = (entries[i] / 256) as usize;
-        counts[q] = counts[q] + 1;
-        i += 1;
+    for entry in &entries[..n] {
+        let q = (entry / 256) as usize;
+        counts[q] += 1;
     }
     counts
 }
@@ -157,30 +127,23 @@ pub fn all_below(entries: &[u16], n: usize, queues: usize) -> bool
     requires { n ≤ length entries.now }
     ensures { result ≡ all_of (byte_below queues) (bytes_in n entries.now) }
 {
-    let mut i: usize = 0;
-    while i < n {
-        if queues <= (entries[i] / 256) as usize {
-            return false;
-        }
-        i += 1;
-    }
-    true
+    entries[..n]
+        .iter()
+        .all(|entry| ((entry / 256) as usize) < queues)
 }
 
 // Among the first n queues with b bytes or more the one with most, the lowest number on a tie.
-pub fn fullest_of(counts: &CountArray, n: usize, b: u16) -> Chosen
+pub fn fullest_of(counts: &CountArray, n: usize, b: u16) -> Option<u8>
     requires { (n ≤ queue_places) × (length counts.now ≡ queue_places) × (1 ≤ b) }
     ensures { chosen_in result ≡ fullest b (counts_in counts.now) n }
 {
-    let mut found = Chosen::Nothing;
+    let mut found = None;
     let mut most: u16 = b - 1;
-    let mut i: usize = 0;
-    while i < n {
-        if counts[i] > most {
-            most = counts[i];
-            found = Chosen::Queue(i as u8);
+    for (i, &bytes) in counts[..n].iter().enumerate() {
+        if bytes > most {
+            most = bytes;
+            found = Some(i as u8);
         }
-        i += 1;
     }
     found
 }

@@ -2,16 +2,14 @@
 // number to standard error. It decides nothing: `captures::to_script` has the answer.
 #![tactic(auto)]
 
-ghost use Rattle.std.specs.Prelude.{◌≡◌, ◌+◌, ◌-◌, ◌*◌, ◌≤◌, min, length};
-ghost use Rattle.model.specs.Basics.{between};
-ghost use Rattle.capture.specs.Decimal.{decimal_in, most_told, at_most, number_read};
+ghost use Rattle.std.specs.Prelude.{◌≡◌, ◌+◌, ◌-◌, ◌*◌, ◌≤◌, min, length, IfOk};
+ghost use Rattle.capture.specs.Decimal.{decimal_in, most_told, at_most};
 ghost use Rattle.capture.specs.Says.{IsCaptureScript};
 
-use captures::Conversion;
 use std::env::FillError;
-use std::fs;
-use std::io::{Eprint, Error, Print, Result};
+use std::io::{Eprint, Error, Print};
 use std::rt::{Env, Files};
+use std::{fs, io};
 
 // One byte more than a capture may have here, to tell a longer one. The library takes captures of any length.
 const INPUT: usize = 1048577;
@@ -32,67 +30,42 @@ fn output_room() -> [u8; OUTPUT]
     [0; OUTPUT]
 }
 
-// A number, 100,000 where it is greater; or something else.
-#[derive(Drop)]
-enum Number {
-    Is(usize),
-    Other,
-}
-
-// Whether a letter is a digit.
-fn is_digit(letter: u8) -> bool
-    ensures { result ≡ between 48 letter 57 }
-{
-    if letter < b'0' {
-        return false;
-    }
-    letter <= b'9'
-}
-
 // A digit more behind those that make n.
 fn with_digit(n: usize, digit: u8) -> usize
     requires n_le_most_told { n ≤ most_told }
     requires le_digit { 48 ≤ digit }
     ensures { result ≡ min (10 * n + (digit - 48)) most_told }
 {
-    minmax::smaller(10 * n + (digit - b'0') as usize, 100000)
+    (10 * n + (digit - b'0') as usize).min(100000)
 }
 
-// The number that digits alone make.
-fn decimal(text: &[u8]) -> Number
-    ensures { number_read result ≡ at_most (decimal_in text.now) }
+// The number that digits alone make, 100,000 where it is greater.
+fn decimal(text: &[u8]) -> Option<usize>
+    ensures { result ≡ at_most (decimal_in text.now) }
 {
-    if text.len() == 0 {
-        return Number::Other;
+    if text.is_empty() {
+        return None;
     }
-    let mut n: usize = 0;
-    let mut i = 0;
-    while i < text.len() {
-        let letter = text[i];
-        if !is_digit(letter) {
-            return Number::Other;
+    let mut n = 0;
+    for &letter in text {
+        if !letter.is_ascii_digit() {
+            return None;
         }
         n = with_digit(n, letter);
-        i += 1;
     }
-    Number::Is(n)
+    Some(n)
 }
 
 // The number that an argument is, of at most 20 letters.
-fn argument(rt: &impl Env, place: usize) -> Number {
+fn argument(rt: &impl Env, place: usize) -> Option<usize> {
     let mut text = [0u8; 20];
-    match rt.arg(place, &mut text) {
-        Ok(length) => decimal(&text[..length]),
-        Err(_) => Number::Other,
-    }
+    let length = rt.arg(place, &mut text).ok()?;
+    decimal(&text[..length])
 }
 
 // Whether there is such an argument.
 fn has_argument(rt: &impl Env, place: usize) -> bool {
-    match rt.arg(place, &mut []) {
-        Err(FillError::NotPresent) => false,
-        _ => true,
-    }
+    !matches!(rt.arg(place, &mut []), Err(FillError::NotPresent))
 }
 
 // A line on standard error. One that cannot be written is not told.
@@ -112,7 +85,7 @@ fn tell(rt: &impl Eprint, number: u8) {
 
 // Writes a script. No contract can say what the system writes: so it is said, and proved where it is called, of what is
 // handed over to be written, which is all that this function has.
-fn write_script(to: &impl Print, script: &[u8]) -> Result<()>
+fn write_script(to: &impl Print, script: &[u8]) -> io::Result<()>
     requires { IsCaptureScript script.now }
 {
     to.write_all(script)
@@ -121,14 +94,21 @@ fn write_script(to: &impl Print, script: &[u8]) -> Result<()>
 // Converts a capture and writes its script.
 fn convert(rt: &(impl Print + Eprint), queues: usize, block: usize, depth: usize, capture: &[u8]) {
     let mut output = output_room();
-    let converted = captures::to_script(queues, block, depth, capture, &mut output);
-    match converted {
-        Conversion::Written(length) => match write_script(rt, &output[..length]) {
+    match captures::to_script(queues, block, depth, capture, &mut output) {
+        Ok(length) => match write_script(rt, &output[..length]) {
             Ok(()) => tell(rt, 0),
             Err(error) => fail(rt, "standard output", &error),
         },
-        Conversion::Refused(number) => tell(rt, number),
+        Err(refusal) => tell(rt, u8::from(refusal)),
     }
+}
+
+// Reads a file, as much of it as there is room for: how many bytes.
+fn read_file(rt: &impl Files, path: &str, input: &mut [u8]) -> io::Result<usize>
+    ensures { IfOk result (λ n. n ≤ length input.new) }
+{
+    let mut file = fs::open(rt, path)?;
+    program_input::read_all(&mut file, input).map_err(|failure| failure.error)
 }
 
 // Opens a capture file, reads and converts it.
@@ -139,21 +119,14 @@ fn convert_file(
     block: usize,
     depth: usize,
 ) {
-    let mut file = match fs::open(rt, path) {
-        Ok(file) => file,
+    let mut input = input_room();
+    let length = match read_file(rt, path, &mut input) {
+        Ok(length) => length,
         Err(error) => {
             fail(rt, path, &error);
             return;
         }
     };
-    let mut input = input_room();
-    let found = program_input::read_all(&mut file, &mut input);
-    if found.failed {
-        let error = found.error.unwrap();
-        fail(rt, path, &error);
-        return;
-    }
-    let length = found.length;
     if length == INPUT {
         let _ = eprintln!(rt; "capture: {path}: longer than 1,048,576 bytes");
         return;
@@ -166,15 +139,15 @@ fn main(rt: HostRuntime) {
         say(&rt, "usage: capture FILE Q b K");
         return;
     }
-    let Number::Is(queues) = argument(&rt, 2) else {
+    let Some(queues) = argument(&rt, 2) else {
         say(&rt, "capture: Q is no number of at most 20 digits");
         return;
     };
-    let Number::Is(block) = argument(&rt, 3) else {
+    let Some(block) = argument(&rt, 3) else {
         say(&rt, "capture: b is no number of at most 20 digits");
         return;
     };
-    let Number::Is(depth) = argument(&rt, 4) else {
+    let Some(depth) = argument(&rt, 4) else {
         say(&rt, "capture: K is no number of at most 20 digits");
         return;
     };

@@ -5,14 +5,15 @@ use Prim.Native.Nat.{ℕ, ◌+◌, ◌-◌, ◌*◌, ◌≤◌, ◌<◌}
 use native.Mathlib.Omega.{arith}
 use native.Mathlib.Numerals.{add-one}
 use lib.ListN.{length, take, drop, get_or, length-drop}
-use lib.Seq.{take-suc, take_all, length-take-le}
+use lib.Seq.{take-suc, length-take-le}
 use Rattle.script_commands.specs.Commands as of
 use Rattle.script_commands.specs.Commands.{command}
 use Rattle.script_commands.specs.Scripts.{script_bytes}
 use Rattle.script_commands.specs.declared.Command.TheVariants.{Arrive}
 use Rattle.script_commands.proofs.ReadBack.{script-append}
 use Rattle.script_codes.specs.Says.{put_over}
-use Rattle.scripts.specs.declared.Written.{Written}
+use Rattle.std.specs.Prelude.{Result}
+use Rattle.scripts.specs.declared.Refusal.{Refusal}
 use Rattle.scripts.specs.Says.{command_bytes_in, CommandWritten}
 use Rattle.scripts.proofs.Parts.{rest_from}
 use Rattle.capture_frames.specs.Script.{arrivals}
@@ -28,9 +29,6 @@ pub record ArrivedTo (q i : ℕ) (frame output output' : List ℕ) : Type 0 wher
   pub within : i ≤ length frame
   pub same_length : length output' ≡ length output
   pub output_is : output' ≡ put_over (script_bytes (arrivals q (take i frame))) output
-
-pub arrivals-start : (q : ℕ) (frame output : List ℕ) → ArrivedTo q 0 frame output output
-arrivals-start q frame output = record { within = omega arith; same_length = refl; output_is = refl }
 
 -- One byte more is one command more.
 arrival-more : (q i : ℕ) (frame : List ℕ) → i < length frame
@@ -50,7 +48,7 @@ module _ {q i : ℕ} {frame output output' : List ℕ} (w : ArrivedTo q i frame 
   place_is : 3 * i ≡ length (script_bytes (arrivals q (take i frame)))
   place_is = sym (arrivals-length q (take i frame) ∙ ap (λ (n : ℕ). 3 * n) (length-take-le i frame w.within))
 
-  module _ (more : i < length frame) {part' : List ℕ} {r : Written}
+  module _ (more : i < length frame) {part' : List ℕ} {r : Result ℕ Refusal}
       (says : CommandWritten (Arrive q (get_or frame i 0)) (take (length output' - 3 * i) (drop (3 * i) output')) r part')
     where
       put_there : part' ≡ put_over (command_bytes_in (Arrive q (get_or frame i 0)))
@@ -80,6 +78,3 @@ module _ {q i : ℕ} {frame output output' : List ℕ} (w : ArrivedTo q i frame 
             ));
         output_is = arrived_is;
       }
-
-  pub arrivals-end : length frame ≤ i → output' ≡ put_over (script_bytes (arrivals q frame)) output
-  arrivals-end done = w.output_is ∙ rw (take_all i frame done)

@@ -1,10 +1,8 @@
 -- The proofs of captures.
 
--- Bytes compared one by one, and a header's tests.
+-- A header's tests.
 pub mod Compared
--- A frame's tag.
-pub mod Tagged
--- Records read, and the bytes of all frames counted.
+-- The bytes of all frames counted.
 pub mod Counted
 -- Bytes put over the start of an output.
 pub mod Over

@@ -8,7 +8,8 @@ use lib.Seq.{take-append_seam, drop-append_seam, drop-drop}
 use borrow.Author.Tests.{le-ltb}
 use Rattle.script_commands.specs.declared.Command as enum
 use Rattle.script_codes.specs.Says.{put_over}
-use Rattle.scripts.specs.declared.Written.{Written}
+use Rattle.std.specs.Prelude.{Result}
+use Rattle.scripts.specs.declared.Refusal.{Refusal}
 use Rattle.scripts.specs.Says.{command_bytes_in, CommandWritten}
 use Rattle.scripts.proofs.Parts.{rest_from}
 
@@ -44,6 +45,6 @@ part_put front bytes output {output'} {part'} {at} place so_far put =
     ) (put_behind front bytes output)
 
 -- A command written where there is room for it.
-pub command-put : {c : enum.Command} {output output' : List ℕ} {r : Written} → CommandWritten c output r output'
+pub command-put : {c : enum.Command} {output output' : List ℕ} {r : Result ℕ Refusal} → CommandWritten c output r output'
     → length (command_bytes_in c) ≤ length output → output' ≡ put_over (command_bytes_in c) output
 command-put {c} {output} w room = w.output_is ∙ rw (le-ltb (length output) (length (command_bytes_in c)) room)

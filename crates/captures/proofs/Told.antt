@@ -6,19 +6,18 @@ use native.Mathlib.Omega.{arith}
 use lib.Dec.{eqb}
 use lib.ListN.{length}
 use borrow.Author.Tests.{ne_eqb}
+use Rattle.std.specs.Prelude.{Result, Ok, Err}
 use Rattle.model.specs.Basics.{choose}
-use Rattle.captures.specs.declared.Conversion.{Conversion}
-use Rattle.captures.specs.declared.Conversion.TheVariants.{Written, Refused}
 use Rattle.captures.specs.Says.{conversion_of}
 
 -- 0 for what the answer does not tell.
-abbrev pub number_told : Conversion → ℕ
-number_told (Written n) = 0
-number_told (Refused n) = n
+abbrev pub number_told : Result ℕ ℕ → ℕ
+number_told (Ok n) = 0
+number_told (Err n) = n
 
-abbrev pub length_told : Conversion → ℕ
-length_told (Written n) = n
-length_told (Refused n) = 0
+abbrev pub length_told : Result ℕ ℕ → ℕ
+length_told (Ok n) = n
+length_told (Err n) = 0
 
 pub told-number : (n : ℕ) (script : List ℕ) → number_told (conversion_of n script) ≡ n
 told-number zero script = refl

@@ -11,7 +11,8 @@ use Rattle.script_commands.specs.Scripts.{script_bytes}
 use Rattle.script_commands.specs.declared.Command.TheVariants.{Sizes, End}
 use Rattle.script_commands.proofs.ReadBack.{script-append}
 use Rattle.script_codes.specs.Says.{put_over}
-use Rattle.scripts.specs.declared.Written.{Written}
+use Rattle.std.specs.Prelude.{Result}
+use Rattle.scripts.specs.declared.Refusal.{Refusal}
 use Rattle.scripts.specs.Says.{command_bytes_in, CommandWritten}
 use Rattle.scripts.proofs.Parts.{rest_from}
 use Rattle.capture_frames.specs.Frames.{frames_from}
@@ -32,7 +33,7 @@ module _ {records output : List ℕ} (room : FramesFit 5 records output) where
   middle = script_bytes (all_arrivals frames)
 
   -- The sizes.
-  module _ {q b k : ℕ} {r : Written} {opened : List ℕ} (w : CommandWritten (Sizes q b k) output r opened) where
+  module _ {q b k : ℕ} {r : Result ℕ Refusal} {opened : List ℕ} (w : CommandWritten (Sizes q b k) output r opened) where
     abbrev opening : List ℕ
     opening = command_bytes_in (Sizes q b k)
 
@@ -42,21 +43,11 @@ module _ {records output : List ℕ} (room : FramesFit 5 records output) where
     opened-long : length opened ≡ length output
     opened-long = ap length opened-is ∙ over_length opening output (omega (arith, room_is))
 
-    pub four_within : 4 ≤ length opened
-    four_within = omega (arith, opened-long, room_is)
-
     abbrev behind : List ℕ
     behind = take (length opened - 4) (drop 4 opened)
 
     behind_long : length behind ≡ length output - 4
     behind_long = omega (arith, ap length (rest_from 4 opened), length-drop 4 opened, opened-long)
-
-    pub room_behind : FramesFit 0 records behind
-    room_behind = record {
-      frames = room.frames;
-      frames_are = room.frames_are;
-      enough = omega (arith, behind_long, room.enough);
-    }
 
     -- The arrivals.
     module _ {n : ℕ} {behind' : List ℕ} (v : FramesWritten records behind n behind') where
@@ -81,7 +72,7 @@ module _ {records output : List ℕ} (room : FramesFit 5 records output) where
           )
 
       -- The end.
-      module _ {r' : Written} {last : List ℕ}
+      module _ {r' : Result ℕ Refusal} {last : List ℕ}
           (u : CommandWritten End (take (length filled - (4 + n)) (drop (4 + n) filled)) r' last) where
         end_put : last ≡ put_over (command_bytes_in End) (take (length filled - (4 + n)) (drop (4 + n) filled))
         end_put = command-put u
@@ -99,16 +90,3 @@ module _ {records output : List ℕ} (room : FramesFit 5 records output) where
         closed_is =
             part_put (opening ++ middle) (command_bytes_in End) output (sym written-long) filled_is end_put
             ∙ ap (λ (bytes : List ℕ). put_over bytes output) (sym script-parts)
-
-        pub closed-long : length closed ≡ length output
-        closed-long =
-            ap length closed_is
-            ∙ over_length (record_script q b k records) output
-            (omega (
-              arith,
-              ap length script-parts,
-              length-append (opening ++ middle) (command_bytes_in End),
-              written-long,
-              v.length-is,
-              room_is,
-            ))

@@ -3,7 +3,7 @@ use mathlib.Core.Path.{◌≡◌, refl, sym, ap, ◌∙◌}
 use mathlib.Core.Bool.{true}
 use mathlib.Core.List.{List, [], ◌∷◌, ◌++◌, append_assoc, append-nil}
 use mathlib.Core.Option.{Option, some, none}
-use Prim.Native.Nat.{ℕ, ◌+◌, ◌-◌, ◌*◌, ◌≤◌, ◌<◌}
+use Prim.Native.Nat.{ℕ, ◌+◌, ◌-◌, ◌*◌, ◌≤◌}
 use native.Mathlib.Omega.{arith}
 use lib.ListN.{length, take, drop, length-append, length-drop}
 use lib.Seq.{drop-drop}
@@ -56,22 +56,20 @@ captured_append (frame ∷ frames) more =
       captured_append frames more,
     )
 
--- Before each turn the frames up to the place in the records stand written up to the place in the output.
-pub record WrittenTo (records output : List ℕ) (at to : ℕ) (output' : List ℕ) : Type 0 where
+-- Before each turn the frames before what is left of the records stand written up to the place in the output.
+pub record WrittenTo (records output rest : List ℕ) (to : ℕ) (output' : List ℕ) : Type 0 where
   pub before : List (List ℕ)
   pub after : List (List ℕ)
-  pub within : at ≤ length records
   pub all_are : frames_from records ≡ some (before ++ after)
-  pub after_are : frames_from (drop at records) ≡ some after
+  pub after_are : frames_from rest ≡ some after
   pub to_is : to ≡ 3 * length (captured_bytes before)
   pub same_length : length output' ≡ length output
   pub output_is : output' ≡ put_over (script_bytes (all_arrivals before)) output
 
-pub frames_start : {records output : List ℕ} → FramesFit 0 records output → WrittenTo records output 0 0 output
+pub frames_start : {records output : List ℕ} → FramesFit 0 records output → WrittenTo records output records 0 output
 frames_start {records} {output} room = record {
   before = [];
   after = room.frames;
-  within = omega arith;
   all_are = room.frames_are;
   after_are = room.frames_are;
   to_is = refl;
@@ -108,7 +106,7 @@ next_frame rest frames are some_left =
       others_are = e;
     }
 
-module _ {records output : List ℕ} {at to : ℕ} {output' : List ℕ} (w : WrittenTo records output at to output')
+module _ {records output rest : List ℕ} {to : ℕ} {output' : List ℕ} (w : WrittenTo records output rest to output')
     (room : FramesFit 0 records output) where
   all_frames : room.frames ≡ w.before ++ w.after
   all_frames = some_inj room.frames (w.before ++ w.after) (sym room.frames_are ∙ w.all_are)
@@ -132,36 +130,31 @@ module _ {records output : List ℕ} {at to : ℕ} {output' : List ℕ} (w : Wri
   pub part_length : length (take (length output' - to) (drop to output')) ≡ length output - to
   part_length = omega (arith, ap length (rest_from to output'), length-drop to output', w.same_length)
 
-  module _ (more : at < length records) {n : ℕ} (is_n : n ≡ captured_in (drop at records)) where
-    some_left : length (drop at records) ≡ 0 → ⊥
-    some_left e = omega (arith, length-drop at records)
+  module _ (some_left : length rest ≡ 0 → ⊥) {n : ℕ} (is_n : n ≡ captured_in rest) where
+    pub there_good : record_good rest ≡ true
+    there_good = next_good rest w.after w.after_are some_left
 
-    pub there_good : record_good (drop at records) ≡ true
-    there_good = next_good (drop at records) w.after w.after_are some_left
+    next : NextFrame rest w.after
+    next = next_frame rest w.after w.after_are some_left
 
-    next : NextFrame (drop at records) w.after
-    next = next_frame (drop at records) w.after w.after_are some_left
-
-    pub next_within : at + (16 + n) ≤ length records
-    next_within = omega (arith, is_n, (good_record (drop at records) there_good).all_there, length-drop at records)
+    pub next_within : 16 + n ≤ length rest
+    next_within = omega (arith, is_n, (good_record rest there_good).all_there)
 
     -- The frame as the code lends it.
-    module _ {frame : List ℕ} (lent : frame ≡ take (at + 16 + n - (at + 16)) (drop (at + 16) records)) where
-      pub frame_is : frame ≡ frame_in (drop at records)
-      frame_is =
-          let length-is : at + 16 + n - (at + 16) ≡ captured_in (drop at records) = omega (arith, is_n) in
-          lent ∙ rw (length-is, drop-drop 16 at records)
+    module _ {frame : List ℕ} (lent : frame ≡ take n (drop 16 rest)) where
+      pub frame_is : frame ≡ frame_in rest
+      frame_is = lent ∙ rw is_n
 
       frame_long : length frame ≡ n
       frame_long =
           ap length frame_is
-          ∙ frame_length (drop at records) (good_record (drop at records) there_good)
+          ∙ frame_length rest (good_record rest there_good)
           ∙ sym is_n
 
       after_long : length (captured_bytes w.after) ≡ n + length (captured_bytes next.others)
       after_long =
           ap (λ (frames : List (List ℕ)). length (captured_bytes frames)) next.frames_are
-          ∙ length-append (frame_in (drop at records)) (captured_bytes next.others)
+          ∙ length-append (frame_in rest) (captured_bytes next.others)
           ∙ omega (arith, ap length frame_is, frame_long)
 
       pub frame_room : 3 * length frame ≤ length (take (length output' - to) (drop to output'))
@@ -196,17 +189,17 @@ module _ {records output : List ℕ} {at to : ℕ} {output' : List ℕ} (w : Wri
               captured_append w.before (frame ∷ [])
               ∙ omega (arith, length-append frame [], frame_long)
 
-          pub frames_go_on : WrittenTo records output (at + (16 + n)) (to + 3 * n) all
-          frames_go_on = record {
+          pub frames_go_on : {behind : List ℕ} → behind ≡ drop n (drop 16 rest)
+              → WrittenTo records output behind (to + 3 * n) all
+          frames_go_on behind-is = record {
             before = done;
             after = next.others;
-            within = next_within;
             all_are =
                 w.all_are
                 ∙ ap (λ (frames : List (List ℕ)). some (w.before ++ frames)) next.frames_are
                 ∙ rw (← frame_is) (ap some (sym (append_assoc w.before (frame ∷ []) next.others)));
             after_are =
-                ap frames_from (sym (drop-drop (16 + n) at records) ∙ rw is_n)
+                ap frames_from (behind-is ∙ drop-drop n 16 rest ∙ rw is_n)
                 ∙ next.others_are;
             to_is = omega (arith, w.to_is, done_long);
             same_length =
@@ -216,16 +209,14 @@ module _ {records output : List ℕ} {at to : ℕ} {output' : List ℕ} (w : Wri
             output_is = all_is;
           }
 
-  pub frames_end_here : length records ≤ at → FramesWritten records output to output'
+  pub frames_end_here : length rest ≡ 0 → FramesWritten records output to output'
   frames_end_here done = record {
     length-is = w.to_is ∙ rw (w.all_are, none_left);
     output_is = w.output_is ∙ rw (w.all_are, none_left);
   }
     where
       after_none : w.after ≡ []
-      after_none =
-          some_inj w.after []
-          (sym w.after_are ∙ frames_end (drop at records) (omega (arith, length-drop at records)))
+      after_none = some_inj w.after [] (sym w.after_are ∙ frames_end rest done)
 
       none_left : w.before ++ w.after ≡ w.before
       none_left = ap (λ (frames : List (List ℕ)). w.before ++ frames) after_none ∙ append-nil w.before

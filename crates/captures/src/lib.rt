@@ -1,53 +1,62 @@
 // Scripts from captures (request 2.3): `to_script`, with no `requires`.
 #![tactic(auto)]
 
-ghost use Rattle.captures.specs.Says.{ConvertedSays};
+ghost use Rattle.std.specs.Prelude.{◌≡◌};
+ghost use Rattle.captures.specs.Says.{number_of, ConvertedSays};
 
 mod reading;
 mod writing;
 
-use reading::Measured;
-
-// A script written at the start of the output, and how many bytes it has; or a refusal's number.
-#[derive(Drop)]
-pub enum Conversion {
-    Written(usize),
-    Refused(u8),
+// Why a capture becomes no script, in the order in which the reasons are tested.
+#[derive(Clone, Copy, PartialEq, Eq, Debug)]
+pub enum Refusal {
+    // The sizes are none that a buffer may have.
+    SizesNotAccepted = 1,
+    // Fewer than the eight queues of the priorities.
+    TooFewQueues = 19,
+    // The header is short or other than named.
+    UnknownHeader = 17,
+    // A record is cut short, or has over 9,016 captured bytes.
+    FaultyRecord = 18,
+    // The script is longer than the output.
+    OutputTooShort = 16,
 }
 
-// A capture as a script of these sizes, at the start of the output; or 1, 19, 17, 18 or 16, tested in this order, with
-// the output as it came.
+// The paper's numbers.
+impl From<Refusal> for u8 {
+    ghost from_gives = { λ refusal number. number ≡ number_of refusal };
+
+    fn from(refusal: Refusal) -> u8 {
+        refusal as u8
+    }
+}
+
+// A capture as a script of these sizes, at the start of the output, and how many bytes it has; or why not, with the
+// output as it came.
 pub fn to_script(
     queues: usize,
     block: usize,
     depth: usize,
     capture: &[u8],
     output: &mut [u8],
-) -> Conversion
+) -> Result<usize, Refusal>
     ensures { ConvertedSays queues block depth capture.now output.old result
         output.new }
 {
     if !sizing::accepted(queues, block, depth) {
-        return Conversion::Refused(1);
+        return Err(Refusal::SizesNotAccepted);
     }
     if queues < 8 {
-        return Conversion::Refused(19);
+        return Err(Refusal::TooFewQueues);
     }
     if !reading::header_good(capture) {
-        return Conversion::Refused(17);
+        return Err(Refusal::UnknownHeader);
     }
-    let Measured::Frames(bytes) = reading::measure(&capture[reading::HEADER..]) else {
-        return Conversion::Refused(18);
-    };
+    let records = &capture[reading::HEADER..];
+    let bytes = reading::measure(records).ok_or(Refusal::FaultyRecord)?;
     if !writing::fits(bytes, output.len()) {
-        return Conversion::Refused(16);
+        return Err(Refusal::OutputTooShort);
     }
-    writing::write_script(
-        queues as u8,
-        block as u8,
-        depth as u8,
-        &capture[reading::HEADER..],
-        output,
-    );
-    Conversion::Written(5 + 3 * bytes)
+    writing::write_script(queues as u8, block as u8, depth as u8, records, output);
+    Ok(5 + 3 * bytes)
 }

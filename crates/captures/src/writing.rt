@@ -12,22 +12,17 @@ use script_commands::Command;
 pub fn fits(bytes: usize, room: usize) -> bool
     ensures { result ≡ leb (5 + 3 * bytes) room }
 {
-    if room < 5 {
-        return false;
-    }
-    bytes <= (room - 5) / 3
+    room >= 5 && bytes <= (room - 5) / 3
 }
 
-// The arrivals of a frame's bytes at a queue.
+// The arrivals of a frame's bytes at a queue: there is room, so that none is refused.
 fn write_frame(queue: u8, frame: &[u8], output: &mut [u8])
     requires { 3 * length frame.now ≤ length output.old }
     ensures { output.new ≡ put_over (script_bytes (arrivals queue frame.now))
         output.old }
 {
-    let mut i = 0;
-    while i < frame.len() {
-        scripts::write(Command::Arrive(queue, frame[i]), &mut output[3 * i..]);
-        i += 1;
+    for (i, &byte) in frame.iter().enumerate() {
+        let _ = scripts::write(Command::Arrive(queue, byte), &mut output[3 * i..]);
     }
 }
 
@@ -36,25 +31,26 @@ fn write_frames(records: &[u8], output: &mut [u8]) -> usize
     requires { FramesFit 0 records.now output.old }
     ensures { FramesWritten records.now output.old result output.new }
 {
-    let mut at = 0;
+    // As in `measure`: no iterator goes over the records.
+    let mut rest = records;
     let mut to = 0;
-    while at < records.len() {
-        let captured = captured_in(&records[at..]);
-        let frame = &records[at + RECORD_HEAD..at + RECORD_HEAD + captured];
+    while !rest.is_empty() {
+        let captured = captured_in(rest);
+        let (frame, behind) = rest[RECORD_HEAD..].split_at(captured);
         write_frame(queue_of(frame), frame, &mut output[to..]);
-        at += RECORD_HEAD + captured;
         to += 3 * captured;
+        rest = behind;
     }
     to
 }
 
-// The whole script: the sizes, the arrivals, the end.
+// The whole script, for which there is room: the sizes, the arrivals, the end.
 pub fn write_script(queues: u8, block: u8, depth: u8, records: &[u8], output: &mut [u8])
     requires { FramesFit 5 records.now output.old }
     ensures { output.new ≡ put_over (record_script queues block depth records.now)
         output.old }
 {
-    scripts::write(Command::Sizes(queues, block, depth), output);
+    let _ = scripts::write(Command::Sizes(queues, block, depth), output);
     let written = write_frames(records, &mut output[4..]);
-    scripts::write(Command::End, &mut output[4 + written..]);
+    let _ = scripts::write(Command::End, &mut output[4 + written..]);
 }

@@ -16,9 +16,7 @@ use Rattle.run_words.specs.Words.{near_byte}
 use Rattle.run_words.proofs.Nearest.{SameArbiter, near_arbiter}
 use Rattle.arbiter_in_place.specs.declared.Arbitrated.{Arbitrated}
 use Rattle.arbiter_in_place.specs.Says.{advanced_by, ArbiterAdvanceSays}
-use Rattle.gelwynnar.specs.declared.slots.Answer.{Answer}
 use Rattle.gelwynnar.specs.declared.arbiter.ArbiterAnswer.{ArbiterAnswer}
-use Rattle.gelwynnar.specs.Slots.{flag, queue_told, told}
 use Rattle.gelwynnar.specs.Arbiter.{arbiter_told, asked_by, ArbiterLentSays}
 
 pub lent-told : {regs : Regs} (m : Arrays) {store : List ℕ} {regs' : Regs} {m' : Arrays} {store' : List ℕ}
@@ -50,10 +48,3 @@ lent-told {regs} m {store} {regs'} {m'} {store'} {read} arrival {r} {a} near say
         says.answer-is
         ∙ ap (arbiter_slot paper (state_in regs m) store) near
         ∙ (near_arbiter (state_in regs m) store arrival).same_slot
-
--- Each field by itself.
-pub told-both : (r : Arbitrated) {a : Answer} {asks asked : ℕ} → a ≡ told (reply_in r.reply)
-    → asks ≡ flag (request_in r.asked) → asked ≡ queue_told (request_in r.asked)
-    → ◌≡◌ {A = ArbiterAnswer} (record { slot = a; asks = asks; asked = asked })
-    (arbiter_told (reply_in r.reply) (request_in r.asked))
-told-both r e f g = rw (e, f, g)

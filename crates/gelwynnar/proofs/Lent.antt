@@ -8,51 +8,31 @@ use Rattle.model.specs.Slot as model
 use Rattle.model.specs.Slot.{Call, number_alone, refuse, slot}
 use Rattle.model.proofs.one_slot.Accepted.{RefusedOrAccepted, was_refused, was_accepted, outcome}
 use Rattle.layout.specs.Counts.{ByQueue}
-use Rattle.layout.specs.Calls.{arrival_in, request_in, call_in, reply_in}
-use Rattle.layout.specs.declared.Arrival.{Arrival}
-use Rattle.layout.specs.declared.Request.{Request}
+use Rattle.std.specs.Prelude.{Result, Ok, Err}
+use Rattle.layout.specs.Calls.{call_in, reply_in, number_of}
+use Rattle.layout.specs.declared.Call as code
+use Rattle.layout.specs.declared.Outcome.{Outcome}
+use Rattle.layout.specs.declared.Refusal.{Refusal}
 use Rattle.layout.specs.declared.Regs.{Regs}
-use Rattle.layout.specs.declared.Reply.{Reply}
+use Rattle.layout.proofs.Refusals.{refusal_is_some}
 use Rattle.layout.specs.Views.{Arrays, Long, state_in}
 use Rattle.slot_plan.specs.declared.Plan.{Plan}
+use Rattle.slot_plan.specs.Says.{arrival_number_of, request_number_of}
 use Rattle.slot_in_place.specs.Says.{Ready, answer_in}
 use Rattle.slot_checked.specs.Says.{JudgeStateSays, CountsSay, judged_number, LeaveSays, PlanCheckedSays}
 use Rattle.slot_checked.proofs.Judging.{judged_state}
 use Rattle.slot_checked.proofs.Clearing.{ready_counted, leaves_refused, leaves_ready, judged_lent}
-use Rattle.run_words.specs.Words.{near_byte, near_queue}
-use Rattle.run_words.proofs.Nearest.{read_slot}
+use Rattle.run_words.specs.Words.{near_call}
+use Rattle.run_words.proofs.Nearest.{near_slot}
 use Rattle.run_in_place.specs.Says.{advanced_to, OneSlotSays}
 use Rattle.run_checked.specs.Says.{IdleCheckedSays}
 use Rattle.idle_in_place.specs.declared.Passed.{Passed}
 use Rattle.gelwynnar.specs.declared.slots.Answer.{Answer}
-use Rattle.gelwynnar.specs.declared.slots.DeliveryFields.{DeliveryFields}
-use Rattle.gelwynnar.specs.declared.slots.ChosenFields.{ChosenFields}
-use Rattle.gelwynnar.specs.Slots.{flag, queue_told, delivery_told, value_told, dropped_told, told}
+use Rattle.gelwynnar.specs.Slots.{dropped_told, told}
 use Rattle.gelwynnar.specs.Slots.{SlotLentSays, JudgeLentSays, IdleLentSays}
 
--- Each field of an answer by itself.
-pub told-fields : (t : model.Reply) {dropped : ℕ} {gave : DeliveryFields} {wrote fetched : ChosenFields}
-    → dropped ≡ dropped_told t.arrival_number t.request_number
-    → (gave.delivers ≡ flag t.delivered) × (gave.value ≡ value_told t.delivered)
-    × (gave.queue ≡ delivery_told t.delivered)
-    → (wrote.moves ≡ flag t.written) × (wrote.queue ≡ queue_told t.written)
-    → (fetched.moves ≡ flag t.read) × (fetched.queue ≡ queue_told t.read)
-    → ◌≡◌ {A = Answer} (record {
-      number = t.number;
-      dropped = dropped;
-      delivers = gave.delivers;
-      writes = wrote.moves;
-      reads = fetched.moves;
-      value = gave.value;
-      queue = gave.queue;
-      written = wrote.queue;
-      read = fetched.queue;
-      slots_left = t.slots_left;
-    }) (told t)
-told-fields t x d w r = rw (x, d.0, d.1, d.2, w.0, w.1, r.0, r.1)
-
 -- A run of one call, told: `regs` is what the array of registers held, `regs'` what it holds then.
-pub stepped : {regs : Regs} (regs' : Regs) (m m' : Arrays) {store store' : List ℕ} {call : Call} (r : Reply)
+pub stepped : {regs : Regs} (regs' : Regs) (m m' : Arrays) {store store' : List ℕ} {call : Call} (r : Result Outcome Refusal)
     {counts' : ByQueue} {a : Answer} → OneSlotSays regs m store call (advanced_to regs' r) m' counts' store'
     → a ≡ told (reply_in r)
     → SlotLentSays regs m store call a regs' m' store' × Ready regs' m' counts' store'
@@ -111,11 +91,15 @@ module _ {regs : Regs} (m : Arrays) (store : List ℕ) {before : Regs} (read-in 
   judged : JudgeStateSays (state_in regs m) (length store) n
   judged = judged_state (state_in regs m) (length store) here.0
 
-  pub slot-refused : {call : Call} {a : Answer} → (n ≡ 0 → ⊥) → a ≡ told (number_alone n)
+  pub slot-refused : {call : Call} {a : Answer} (refusal : Refusal) → n ≡ number_of refusal
+      → a ≡ told (reply_in (Err refusal))
       → SlotLentSays regs m store call a regs m store × LeaveSays regs m counts store regs m counts' store
-  slot-refused {call} {a} f tells = (
+  slot-refused {call} {a} refusal e tells = (
     record {
-      answer-is = tells ∙ ap (λ (b : model.Answer). told b.reply) (sym refused);
+      answer-is =
+          tells
+          ∙ ap (λ (k : ℕ). told (number_alone k)) (sym e)
+          ∙ ap (λ (b : model.Answer). told b.reply) (sym refused);
       state_is = ap (λ (b : model.Answer). b.state) (sym refused);
       store_is = ap (λ (b : model.Answer). b.store) (sym refused);
       as_given = λ _. (refl, refl);
@@ -123,6 +107,9 @@ module _ {regs : Regs} (m : Arrays) (store : List ℕ) {before : Regs} (read-in 
     leaves_refused regs m store here.0 here.1 f,
   )
     where
+      f : n ≡ 0 → ⊥
+      f z = refusal_is_some refusal (sym e ∙ z)
+
       refused : slot paper (state_in regs m) store call ≡ refuse n (state_in regs m) store
       refused = judged.refused f store call refl
 
@@ -136,39 +123,39 @@ module _ {regs : Regs} (m : Arrays) (store : List ℕ) {before : Regs} (read-in 
   slot-stepped z says = (says.0, leaves_ready regs m store here.0 z says.1)
 
 -- What is judged of a slot, by what is decided of it.
-module _ {regs : Regs} (m : Arrays) {bytes : ℕ} {before : Regs} (read-in : before ≡ regs) (call : Call)
-    (arrival : Arrival) (request : Request) {p : Plan}
-    (says : PlanCheckedSays (state_in before m) bytes (call_in arrival request) p)
-    (ea : arrival_in arrival ≡ near_byte call.arrival) (er : request_in request ≡ near_queue call.request) where
+module _ {regs : Regs} (m : Arrays) {before : Regs} (read-in : before ≡ regs) (call : Call) (read : code.Call)
+    (near : call_in read ≡ near_call call) where
   -- The slot of the call's halves as the code reads them is the slot of the call.
   is_slot : (store : List ℕ)
-      → slot paper (state_in before m) store (call_in arrival request) ≡ slot paper (state_in regs m) store call
+      → slot paper (state_in before m) store (call_in read) ≡ slot paper (state_in regs m) store call
   is_slot store =
-      read_slot (state_in before m) store call ea er ∙ ap (λ (k : Regs). slot paper (state_in k m) store call) read-in
+      ap (slot paper (state_in before m) store) near
+      ∙ near_slot (state_in before m) store call
+      ∙ ap (λ (k : Regs). slot paper (state_in k m) store call) read-in
 
-  number_judged : (store : List ℕ) → length store ≡ bytes
-      → p.number ≡ (slot paper (state_in regs m) store call).reply.number
-  number_judged store l = says.number_is store l ∙ ap (λ (a : model.Answer). a.reply.number) (is_slot store)
-
-  pub judged_stopped : (p.number ≡ 0 → ⊥)
-      → JudgeLentSays (state_in regs m) bytes call (record { number = p.number; dropped = 0 })
-  judged_stopped n = record {
-    number_is = number_judged;
+  pub judged_stopped : {bytes : ℕ} {refusal : Refusal} → PlanCheckedSays (state_in before m) bytes (call_in read) (Err refusal)
+      → JudgeLentSays (state_in regs m) bytes call (record { number = number_of refusal; dropped = 0 })
+  judged_stopped {bytes} {refusal} says = record {
+    number_is = numbered;
     dropped_is = λ store l. stops (slot paper (state_in regs m) store call) (outcome paper (state_in regs m) store call)
-        (λ z. n (number_judged store l ∙ z));
+        (λ z. refusal_is_some refusal (numbered store l ∙ z));
   }
     where
+      numbered : (store : List ℕ) → length store ≡ bytes
+          → number_of refusal ≡ (slot paper (state_in regs m) store call).reply.number
+      numbered store l = says.number_is store l ∙ ap (λ (a : model.Answer). a.reply.number) (is_slot store)
+
       stops : {store : List ℕ} (a : model.Answer) → RefusedOrAccepted paper (state_in regs m) store call a
           → (a.reply.number ≡ 0 → ⊥) → 0 ≡ dropped_told a.reply.arrival_number a.reply.request_number
       stops a (was_refused k e) f = refl
       stops a (was_accepted e) f = absurd (f refl)
 
-  pub judged_going_on : p.number ≡ 0 → {dropped : ℕ}
-      → dropped ≡ dropped_told p.arrival_number p.request_number
+  pub judged_going_on : {bytes : ℕ} {p : Plan} → PlanCheckedSays (state_in before m) bytes (call_in read) (Ok p) → {dropped : ℕ}
+      → dropped ≡ dropped_told (arrival_number_of p) (request_number_of p)
       → JudgeLentSays (state_in regs m) bytes call (record { number = 0; dropped = dropped })
-  judged_going_on z e = record {
-    number_is = λ store l. sym z ∙ number_judged store l;
+  judged_going_on says e = record {
+    number_is = λ store l. says.number_is store l ∙ ap (λ (a : model.Answer). a.reply.number) (is_slot store);
     dropped_is = λ store l.
         e ∙ ap (λ (a : model.Answer). dropped_told a.reply.arrival_number a.reply.request_number)
-        (says.carries z store l ∙ is_slot store);
+        (says.plan_is.carries store l ∙ is_slot store);
   }

@@ -7,52 +7,28 @@ ghost use Rattle.layout.specs.Views.{Long, regs_in};
 ghost use Rattle.slot_in_place.specs.Says.{Ready};
 ghost use Rattle.slot_checked.specs.Says.{LeaveSays};
 ghost use Rattle.run_words.specs.Words.{call_of};
-ghost use Rattle.gelwynnar.specs.Slots.{flag, queue_told};
 ghost use Rattle.gelwynnar.specs.Arbiter.{arbiter_told, ArbiterLentSays};
 
 use crate::slots::Answer;
 use arbiter_in_place::Arbitrated;
-use layout::{CellArray, CountArray, HeadArray, RegArray, Request, RingArray, TailArray};
+use layout::{CellArray, CountArray, HeadArray, RegArray, RingArray, TailArray};
 
 // What a slot answers, and the queue that was asked: 1 and the queue where one was, else 0 and 0.
 #[repr(C)]
-#[derive(Drop)]
+#[derive(Clone, Copy, Default)]
 pub struct ArbiterAnswer {
     pub slot: Answer,
     pub asks: u8,
     pub asked: u16,
 }
 
-// A queue that was asked as its two fields.
-#[derive(Drop)]
-struct AskedFields {
-    asks: u8,
-    asked: u16,
-}
-
-fn asked_fields(request: Request) -> AskedFields
-    ensures { (result.asks ≡ flag (request_in request)) × (result.asked ≡ queue_told (request_in request)) }
-{
-    match request {
-        Request::Asks(queue) => AskedFields {
-            asks: 1,
-            asked: queue as u16,
-        },
-        Request::NoRequest => AskedFields { asks: 0, asked: 0 },
-    }
-}
-
 fn tell_arbiter(answer: Arbitrated) -> ArbiterAnswer
     ensures { result ≡ arbiter_told (reply_in answer.reply) (request_in answer.asked) }
 {
-    let reply = answer.reply;
-    let request = answer.asked;
-    let slot = crate::slots::tell(reply);
-    let fields = asked_fields(request);
     ArbiterAnswer {
-        slot: slot,
-        asks: fields.asks,
-        asked: fields.asked,
+        slot: crate::slots::tell(answer.reply),
+        asks: answer.asked.is_some() as u8,
+        asked: answer.asked.unwrap_or(0) as u16,
     }
 }
 

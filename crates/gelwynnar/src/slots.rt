@@ -1,9 +1,10 @@
-// Slots for C callers: the state lies in arrays that the caller lends, and a slot goes in place. `regs` has a state's
-// registers in the order of `layout::Regs`; a call is one word (crates/run_words). Each function that judges leaves the
-// counts by queue right wherever the state keeps the rules, so that `gel_step` may follow.
-ghost use Rattle.std.specs.Prelude.{◌≡◌, List, ℕ, length};
+// Slots for C callers: the state lies in arrays that the caller lends one by one, and a slot goes in place. `regs` has
+// a state's registers in the order of `layout::Regs`; a call is one word (crates/run_words). Each function that judges
+// leaves the counts by queue right wherever the state keeps the rules, so that `gel_step` may follow.
+ghost use Rattle.std.specs.Prelude.{◌≡◌, List, ℕ, length, Ok};
+ghost use Rattle.model.specs.Basics.{choose};
 ghost use Rattle.model.specs.State.{margin};
-ghost use Rattle.layout.specs.Calls.{chosen_in, delivery_in, reply_in};
+ghost use Rattle.layout.specs.Calls.{reply_in};
 ghost use Rattle.layout.specs.Lent.{given, found, left, counts_given, counts_found, counts_left};
 ghost use Rattle.layout.specs.Lengths.{head_places, cell_places};
 ghost use Rattle.layout.specs.Views.{Long, arrays, regs_in, state_in};
@@ -11,19 +12,20 @@ ghost use Rattle.slot_in_place.specs.Says.{Ready};
 ghost use Rattle.slot_checked.specs.Says.{judged_number, LeaveSays};
 ghost use Rattle.run_words.specs.Words.{call_of};
 ghost use Rattle.run_checked.specs.Says.{RunCheckedSays};
-ghost use Rattle.gelwynnar.specs.Slots.{flag, queue_told, delivery_told, value_told, dropped_told, told};
+ghost use Rattle.gelwynnar.specs.Slots.{dropped_told, told};
 ghost use Rattle.gelwynnar.specs.Slots.{OpenSays, SlotLentSays, JudgeLentSays, IdleLentSays};
 
 use layout::{
-    CELL_PLACES, CellArray, Chosen, CountArray, Delivery, EMPTY, HEAD_PLACES, HeadArray,
-    QUEUE_PLACES, RegArray, Reply, RingArray, TAIL_PLACES, TailArray,
+    Byte, CELL_PLACES, CellArray, CountArray, EMPTY, HEAD_PLACES, HeadArray, Outcome, QUEUE_PLACES,
+    Refill, RegArray, Reply, RingArray, TAIL_PLACES, TailArray,
 };
 
-// What a slot answers. Where `number` is not 0 all else is 0. `dropped` is 1 where the arrival was dropped (5), 2 where
-// the request was (7), 3 where both were, else 0. `slots_left` says at a read in how many slots the cell leaves that
-// the block was for, 1 to L, and is 0 where nothing is read.
+// What a slot answers. To C a refusal is its number, 0 where there is none, and what may be missing is a flag with a
+// value beside it, here and in all that follows. Where `number` is not 0 all else is 0. `dropped` is 1 where the
+// arrival was dropped (5), 2 where the request was (7), 3 where both were, else 0. `slots_left` says at a read in how
+// many slots the cell leaves that the block was for, 1 to L, and is 0 where nothing is read.
 #[repr(C)]
-#[derive(Drop)]
+#[derive(Clone, Copy, Default)]
 pub struct Answer {
     pub number: u8,
     pub dropped: u8,
@@ -39,96 +41,55 @@ pub struct Answer {
 
 // What a stretch of idle slots answers: how many passed, and what the last of them answered.
 #[repr(C)]
-#[derive(Drop)]
+#[derive(Clone, Copy, Default)]
 pub struct Stretched {
     pub passed: usize,
     pub last: Answer,
 }
 
-// A delivery as its three fields.
-#[derive(Drop)]
-struct DeliveryFields {
-    delivers: u8,
-    value: u8,
-    queue: u16,
-}
-
-fn delivery_fields(delivery: Delivery) -> DeliveryFields
-    ensures { (result.delivers ≡ flag (delivery_in delivery)) × (result.value ≡ value_told (delivery_in delivery))
-        × (result.queue ≡ delivery_told (delivery_in delivery)) }
+// Which halves were dropped.
+fn dropped_field(arrival: bool, request: bool) -> u8
+    ensures { result ≡ dropped_told (choose arrival 5 0) (choose request 7 0) }
 {
-    match delivery {
-        Delivery::Gives(queue, value) => DeliveryFields {
-            delivers: 1,
-            value: value,
-            queue: queue as u16,
-        },
-        Delivery::NoDelivery => DeliveryFields {
-            delivers: 0,
-            value: 0,
-            queue: 0,
-        },
-    }
+    (arrival as u8) + 2 * (request as u8)
 }
 
-// A queue that is written or read as its two fields.
-#[derive(Drop)]
-struct ChosenFields {
-    moves: u8,
-    queue: u16,
-}
-
-fn chosen_fields(chosen: Chosen) -> ChosenFields
-    ensures { (result.moves ≡ flag (chosen_in chosen)) × (result.queue ≡ queue_told (chosen_in chosen)) }
+// What a slot did, as fields. Each is read by itself: a struct that was just written field by field is slow to copy.
+fn tell_outcome(outcome: Outcome) -> Answer
+    ensures { result ≡ told (reply_in (Ok outcome)) }
 {
-    match chosen {
-        Chosen::Queue(queue) => ChosenFields {
-            moves: 1,
-            queue: queue as u16,
-        },
-        Chosen::Nothing => ChosenFields { moves: 0, queue: 0 },
+    let (value, queue) = match outcome.delivery {
+        Some(Byte { queue, value }) => (value, queue as u16),
+        None => (0, 0),
+    };
+    let (read, slots_left) = match outcome.read {
+        Some(Refill { queue, slots_left }) => (queue as u16, slots_left as u32),
+        None => (0, 0),
+    };
+    Answer {
+        number: 0,
+        dropped: dropped_field(outcome.arrival_dropped, outcome.request_dropped),
+        delivers: outcome.delivery.is_some() as u8,
+        writes: outcome.written.is_some() as u8,
+        reads: outcome.read.is_some() as u8,
+        value,
+        queue,
+        written: outcome.written.unwrap_or(0) as u16,
+        read,
+        slots_left,
     }
-}
-
-// Which halves were dropped, by their numbers.
-fn dropped_field(arrival_number: u8, request_number: u8) -> u8
-    ensures { result ≡ dropped_told arrival_number request_number }
-{
-    if arrival_number != 0 {
-        if request_number != 0 {
-            return 3;
-        }
-        return 1;
-    }
-    if request_number != 0 {
-        return 2;
-    }
-    0
 }
 
 // What a slot tells as fields.
 pub fn tell(reply: Reply) -> Answer
     ensures { result ≡ told (reply_in reply) }
 {
-    let delivery = reply.delivery;
-    let written = reply.written;
-    let read = reply.read;
-    let dropped = dropped_field(reply.arrival_number, reply.request_number);
-    let gave = delivery_fields(delivery);
-    let wrote = chosen_fields(written);
-    let fetched = chosen_fields(read);
-    let left = reply.slots_left as u32;
-    Answer {
-        number: reply.number,
-        dropped: dropped,
-        delivers: gave.delivers,
-        writes: wrote.moves,
-        reads: fetched.moves,
-        value: gave.value,
-        queue: gave.queue,
-        written: wrote.queue,
-        read: fetched.queue,
-        slots_left: left,
+    match reply {
+        Ok(outcome) => tell_outcome(outcome),
+        Err(refusal) => Answer {
+            number: u8::from(refusal),
+            ..Answer::default()
+        },
     }
 }
 
@@ -236,7 +197,7 @@ pub extern "C" fn gel_slot(
         (counts_left tails heads owing) store.new }
 {
     let before = layout::regs_in(regs);
-    let number = slot_checked::judge_state(
+    let judged = slot_checked::judge_state(
         tail,
         head,
         cells,
@@ -248,13 +209,12 @@ pub extern "C" fn gel_slot(
         before,
         store.len(),
     );
-    if number != 0 {
-        let refused = layout::number_alone(number);
-        return tell(refused);
+    match judged {
+        Ok(()) => gel_step(
+            regs, tail, head, cells, firsts, stored, tails, heads, owing, call, store,
+        ),
+        Err(refusal) => tell(Err(refusal)),
     }
-    gel_step(
-        regs, tail, head, cells, firsts, stored, tails, heads, owing, call, store,
-    )
 }
 
 // Many slots, of any state and any store: as many as there are calls and places for answers. 0, or the number that each
@@ -285,9 +245,13 @@ pub extern "C" fn gel_run(
         (regs_in regs.new) (left tail head cells firsts stored)
         (counts_left tails heads owing) store.new }
 {
-    run_checked::run(
+    let ran = run_checked::run(
         tail, head, cells, firsts, stored, tails, heads, owing, regs, calls, answers, store,
-    )
+    );
+    match ran {
+        Ok(()) => 0,
+        Err(refusal) => u8::from(refusal),
+    }
 }
 
 // One stretch of at most so many idle slots, of any state and any store.
@@ -318,20 +282,16 @@ pub extern "C" fn gel_idle(
     let stretch = run_checked::idle(
         tail, head, cells, firsts, stored, tails, heads, owing, before, slots, store,
     );
-    let next = stretch.regs;
-    layout::put_regs(regs, next);
-    let passed = stretch.passed;
-    let reply = stretch.reply;
-    let last = tell(reply);
+    layout::put_regs(regs, stretch.regs);
     Stretched {
-        passed: passed,
-        last: last,
+        passed: stretch.passed,
+        last: tell(stretch.reply),
     }
 }
 
 // What is judged of a slot: its number, and which halves it would drop, as in an answer.
 #[repr(C)]
-#[derive(Drop)]
+#[derive(Clone, Copy, Default)]
 pub struct Judgement {
     pub number: u8,
     pub dropped: u8,
@@ -354,31 +314,25 @@ pub extern "C" fn gel_judge<'a>(
         (arrays tail.now head.now cells.now firsts.now stored.now))
         store_bytes (call_of call) result }
 {
-    let now = layout::regs_in(regs);
-    let arrival = run_words::arrival_in(call);
-    let request = run_words::request_in(call);
-    let plan = slot_checked::plan(
+    let planned = slot_checked::plan(
         tail,
         head,
         cells,
         firsts,
         stored,
-        now,
-        arrival,
-        request,
+        layout::regs_in(regs),
+        run_words::call_in(call),
         store_bytes,
     );
-    let number = plan.number;
-    if number != 0 {
-        return Judgement {
-            number: number,
-            dropped: 0,
-        };
-    }
-    let dropped = dropped_field(plan.arrival_number, plan.request_number);
-    Judgement {
-        number: 0,
-        dropped: dropped,
+    match planned {
+        Ok(plan) => Judgement {
+            number: 0,
+            dropped: dropped_field(plan.arrival_dropped, plan.request_dropped),
+        },
+        Err(refusal) => {
+            let number = u8::from(refusal);
+            Judgement { number, dropped: 0 }
+        }
     }
 }
 

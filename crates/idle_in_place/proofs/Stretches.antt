@@ -1,6 +1,7 @@
 -- A stretch of idle slots is quiet slots and perhaps one slot more, which answers as the model's slot on what the quiet
 -- ones leave.
-use mathlib.Core.Path.{◌≡◌, ap, sym, ◌∙◌, subst}
+use mathlib.Core.Path.{◌≡◌, refl, ap, sym, ◌∙◌, subst}
+use Rattle.std.specs.Prelude.{false, Ok, None}
 use mathlib.Core.List.{List, [], ◌∷◌, ◌++◌}
 use Prim.Native.Nat.{ℕ, ◌+◌, ◌-◌, ◌≤◌}
 use native.Mathlib.Omega.{arith}
@@ -17,6 +18,7 @@ use Rattle.model.proofs.one_slot.Lists.{run-append}
 use Rattle.model.proofs.idle.QuietSlots.{PassedQuietly, idles-parts}
 use Rattle.model.proofs.idle.Stretch.{last_is_slot, last_leaves}
 use Rattle.layout.specs.Counts.{ByQueue}
+use Rattle.layout.specs.declared.Outcome.{Outcome}
 use Rattle.layout.specs.Calls.{reply_in}
 use Rattle.layout.specs.Views.{Arrays, state_in}
 use Rattle.slot_in_place.specs.declared.Advanced.{Advanced}
@@ -58,6 +60,16 @@ module _ (x : State) (store : List ℕ) (n : ℕ) (quiet : All QuietStep (run pa
       (λ e. ap (λ (k : ℕ). (last_answer paper x store k).reply) e)
       (λ h. ap (λ (a : Answer). a.reply) (last_is_slot paper x store n h)
       ∙ (all_behind QuietStep first_steps (last_step ∷ []) (in_parts h)).0)
+
+-- A slot that did nothing tells 0 and nothing else.
+pub nothing_told : (o : Outcome)
+    → (o.arrival_dropped ≡ false)
+    × ((o.request_dropped ≡ false)
+    × ((o.delivery ≡ None)
+    × ((o.written ≡ None)
+    × (o.read ≡ None))))
+    → reply_in (Ok o) ≡ number_alone 0
+nothing_told o e = rw (e.0, e.1.0, e.1.1.0, e.1.1.1.0, e.1.1.1.1) refl
 
 -- A stretch of quiet slots alone.
 pub pass_is_quiet : {x : State} {store : List ℕ} {n : ℕ} {r : Passed} {m : Arrays} {counts : ByQueue}

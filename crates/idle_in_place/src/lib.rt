@@ -1,22 +1,22 @@
 // Idle slots on lent arrays, in place. A stretch is its quiet slots at once, then the one slot that may do something;
-// any number of idle slots are stretches, one after the other.
+// any number of idle slots are stretches, one after the other. The arrays are lent one by one: crates/layout says why.
 #![tactic(auto)]
 
-ghost use Rattle.std.specs.Prelude.{◌≡◌, true, ◌<◌, length};
+ghost use Rattle.std.specs.Prelude.{◌≡◌, true, ◌<◌};
 ghost use Rattle.model.specs.Basics.{all_of};
 ghost use Rattle.model.specs.Sizes.{paper_limits, accepts, lookahead};
 ghost use Rattle.model.specs.State.{cell_below};
-ghost use Rattle.layout.specs.Lengths.{cell_places, queue_places};
+ghost use Rattle.layout.specs.Lengths.{queue_places};
 ghost use Rattle.layout.specs.Entries.{cells_in};
 ghost use Rattle.layout.specs.Lent.{given, found, left, counts_given, counts_left};
 ghost use Rattle.layout.specs.Views.{sizes_in, state_in};
 ghost use Rattle.slot_in_place.specs.Says.{Ready};
 ghost use Rattle.idle_in_place.specs.Says.{StretchSays, PassSays};
 
-use layout::{CellArray, CountArray, HeadArray, REGS, Regs, Reply, RingArray, TailArray};
+use layout::{CellArray, CountArray, HeadArray, Outcome, REGS, Regs, Reply, RingArray, TailArray};
 
 // Quiet slots that have passed: how many, and the phase that they leave.
-#[derive(Drop)]
+#[derive(Clone, Copy)]
 pub struct Stretch {
     pub count: usize,
     pub phase: usize,
@@ -32,7 +32,6 @@ fn pass_quiet(
     n: usize,
 ) -> Stretch
     requires { (accepts paper_limits (sizes_in regs) ≡ true) × (regs.phase < regs.block)
-        × (length cells.old ≡ cell_places) × (length tails.now ≡ queue_places) × (length heads.now ≡ queue_places)
         × (all_of (cell_below queue_places) (cells_in (lookahead (sizes_in regs)) cells.old) ≡ true) }
     ensures { StretchSays regs cells.old tails.now heads.now n result
         cells.new }
@@ -42,21 +41,14 @@ fn pass_quiet(
     let due = idle_quiet::move_due(cells, tails, heads, regs, empties);
     let count = idle_quiet::quiet_count(regs, empties, due, n);
     let phase = idle_quiet::phase_after(regs, count);
-    if empties == l {
-        return Stretch {
-            count: count,
-            phase: phase,
-        };
+    if empties != l {
+        idle_quiet::shift_by(cells, l, count);
     }
-    idle_quiet::shift_by(cells, l, count);
-    Stretch {
-        count: count,
-        phase: phase,
-    }
+    Stretch { count, phase }
 }
 
 // Where a stretch of idle slots leaves the registers, how many slots it had, and what the last of them told.
-#[derive(Drop)]
+#[derive(Clone, Copy)]
 pub struct Passed {
     pub regs: Regs,
     pub passed: usize,
@@ -87,26 +79,16 @@ pub fn pass(
 {
     let quiet = pass_quiet(cells, tails, heads, regs, n);
     let turned = Regs {
-        queues: regs.queues,
-        block: regs.block,
-        depth: regs.depth,
         phase: quiet.phase,
-        tail_fill: regs.tail_fill,
-        head_fill: regs.head_fill,
-        tail_mark: regs.tail_mark,
-        head_mark: regs.head_mark,
-        last_asked: regs.last_asked,
+        ..regs
     };
-    let count = quiet.count;
-    if count == n {
-        let quietly = layout::number_alone(0);
+    if quiet.count == n {
         return Passed {
             regs: turned,
-            passed: count,
-            reply: quietly,
+            passed: quiet.count,
+            reply: Ok(Outcome::default()),
         };
     }
-    let passed = count + 1;
     let mut lent = [0; REGS];
     layout::put_regs(&mut lent, turned);
     let calls = [0u64; 1];
@@ -125,10 +107,9 @@ pub fn pass(
         &mut answers,
         store,
     );
-    let next = layout::regs_in(&lent);
     Passed {
-        regs: next,
-        passed: passed,
-        reply: reply,
+        regs: layout::regs_in(&lent),
+        passed: quiet.count + 1,
+        reply,
     }
 }

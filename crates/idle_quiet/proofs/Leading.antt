@@ -1,14 +1,22 @@
--- The empty cells that lead are counted cell by cell: the first number that is 65,536 or more ends them.
-use mathlib.Core.Path.{◌≡◌, refl, ap}
-use mathlib.Core.List.{List, ◌∷◌}
-use Prim.Native.Nat.{ℕ, zero, suc, ◌+◌, ◌/◌, ◌%◌, ◌≤◌, ◌<◌}
+-- The empty cells that lead end at the first number that is 65,536 or more.
+use mathlib.Core.Path.{◌≡◌, refl, sym}
+use mathlib.Core.List.{List, [], ◌∷◌, map}
+use mathlib.Core.Bool.{cond}
+use Prim.Native.Nat.{ℕ, zero, suc, ◌/◌, ◌%◌, ◌≤◌}
 use native.Mathlib.Omega.{arith}
-use lib.ListN.{length, drop, get_or, drop_of_length-le}
+use lib.Dec.{leb, ltb}
+use lib.ListN.{length, take}
+use lib.Seq.{length-take-le}
+use borrow.Author.Tests.{leb-true, leb-false, ltb-false}
+use Rattle.std.specs.List.{position_or_len}
+use Rattle.std.specs.Option.{unwrap_or}
+use Rattle.std.proofs.Common.{Some, None}
 use Rattle.model.specs.State.{Cell}
 use Rattle.model.specs.Idle.{leading_empties}
+use Rattle.model.proofs.basics.Tests.{by_test}
 use Rattle.model.proofs.idle.QuietCount.{leading_within}
 use Rattle.layout.specs.Entries.{cell_for, cell_of, cells_in}
-use Rattle.layout.proofs.Cells.{cell_empty, cells_length, cells_from}
+use Rattle.layout.proofs.Cells.{cell_empty, cells_length}
 
 kind_ends : (k q v : ℕ) (cells : List Cell) → 1 ≤ k → leading_empties (cell_for k q v ∷ cells) ≡ 0
 unfolding cell_for
@@ -23,39 +31,31 @@ cell_ends c cells h = kind_ends (c / 65536) (c / 256 % 256) (c % 256) cells (ome
 pub leading_fits : (l : ℕ) (xs : List ℕ) → l ≤ length xs → leading_empties (cells_in l xs) ≤ l
 leading_fits l xs fits = omega (arith, leading_within (cells_in l xs), cells_length l xs fits)
 
--- The count before cell i: the first i of l cells are empty.
-pub record LeadsTo (i l : ℕ) (xs : List ℕ) : Type 0 where
-  pub within : i ≤ l
-  pub goes_on : leading_empties (cells_in l xs) ≡ i + leading_empties (drop i (cells_in l xs))
+-- The first number that is 65,536 or more is at the place that the count gives.
+pub leading_is : (xs : List ℕ) → position_or_len (λ x. leb 65536 x) xs ≡ leading_empties (map cell_of xs)
+leading_is [] = refl
+leading_is (x ∷ xs) =
+    by_test (leb 65536 x)
+    (λ t. rw t (sym (cell_ends x (map cell_of xs) (leb-true 65536 x t))))
+    (λ t. rw (t, cell_empty x (leb-false 65536 x t)) (omega (arith, leading_is xs)))
 
-pub leads_start : (l : ℕ) (xs : List ℕ) → LeadsTo 0 l xs
-leads_start l xs = record { within = omega arith; goes_on = omega arith }
-
-module _ {i l : ℕ} {xs : List ℕ} (fits : l ≤ length xs) (w : LeadsTo i l xs) where
-  pub leads_end : l ≤ i → i ≡ leading_empties (cells_in l xs)
-  leads_end last =
-      let passed : length (cells_in l xs) ≤ i = omega (arith, cells_length l xs fits) in
-      omega (arith, w.goes_on, ap leading_empties (drop_of_length-le (cells_in l xs) passed))
-
-  module _ (more : i < l) where
-    pub leads_stop : 65536 ≤ get_or xs i 0 → i ≡ leading_empties (cells_in l xs)
-    leads_stop other =
-        omega (
-          arith,
-          w.goes_on,
-          ap leading_empties (cells_from xs fits more),
-          cell_ends (get_or xs i 0) (drop (i + 1) (cells_in l xs)) other,
-        )
-
-    pub leads_on : get_or xs i 0 < 65536 → LeadsTo (i + 1) l xs
-    leads_on one_more = record {
-      within = omega arith;
-      goes_on =
-          omega (
-            arith,
-            w.goes_on,
-            ap leading_empties (cells_from xs fits more),
-            ap (λ (cell : Cell). leading_empties (cell ∷ drop (i + 1) (cells_in l xs)))
-                (cell_empty (get_or xs i 0) one_more),
-          );
-    }
+-- The place that a search finds among the first l, or l.
+pub leading_found : (l : ℕ) (xs : List ℕ) → l ≤ length xs
+    → unwrap_or
+    (cond (ltb (position_or_len (λ x. leb 65536 x) (take l xs)) (length (take l xs)))
+    (Some (position_or_len (λ x. leb 65536 x) (take l xs)))
+    None)
+    l
+    ≡ leading_empties (cells_in l xs)
+unfolding cells_in
+leading_found l xs fits =
+    let place = position_or_len (λ x. leb 65536 x) (take l xs) in
+    by_test (ltb place (length (take l xs)))
+    (λ t. rw t (leading_is (take l xs)))
+    (λ t. rw t (omega (
+      arith,
+      ltb-false place (length (take l xs)) t,
+      length-take-le l xs fits,
+      leading_is (take l xs),
+      leading_fits l xs fits,
+    )))

@@ -1,57 +1,29 @@
 // Many idle slots at once: what a run needs to know of how many of them are quiet, and the shift and the turn that they
-// come to. Each function has one loop at most.
+// come to.
 #![tactic(auto)]
 
 ghost use Rattle.std.specs.Prelude.{◌≡◌, true, ◌+◌, ◌%◌, ◌≤◌, ◌<◌, length};
 ghost use Rattle.model.specs.Basics.{all_of};
 ghost use Rattle.model.specs.Sizes.{paper_limits, accepts, lookahead};
 ghost use Rattle.model.specs.State.{cell_below};
-ghost use Rattle.model.specs.Idle.{leading_empties, some_queue, move_due, quiet_of};
+ghost use Rattle.model.specs.Idle.{leading_empties, move_due, quiet_of};
 ghost use Rattle.layout.specs.Lengths.{cell_places, queue_places};
 ghost use Rattle.layout.specs.Entries.{counts_in, cells_in};
 ghost use Rattle.layout.specs.Calls.{chosen_in};
 ghost use Rattle.layout.specs.Views.{sizes_in};
-ghost use Rattle.idle_quiet.specs.Says.{MovedDown, EmptiedFrom, ShiftedBy};
+ghost use Rattle.idle_quiet.specs.Says.{ShiftedBy};
 
-use layout::{CellArray, Chosen, CountArray, HELD, Regs};
+use layout::{CellArray, CountArray, HELD, Regs};
 
 // How many of the first l cells are empty before the first that is not.
 pub fn leading_empties(cells: &CellArray, l: usize) -> usize
     requires { (l ≤ cell_places) × (length cells.now ≡ cell_places) }
     ensures { result ≡ leading_empties (cells_in l cells.now) }
 {
-    let mut i: usize = 0;
-    while i < l {
-        if HELD <= cells[i] {
-            return i;
-        }
-        i += 1;
-    }
-    i
-}
-
-// The m oldest of l cells leave, and the others move down.
-fn move_down(cells: &mut CellArray, l: usize, m: usize)
-    requires { (m ≤ l) × (l ≤ cell_places) × (length cells.old ≡ cell_places) }
-    ensures { MovedDown l m cells.old cells.new }
-{
-    let mut i: usize = 0;
-    while i + m < l {
-        cells[i] = cells[i + m];
-        i += 1;
-    }
-}
-
-// The cells from `from` to l become empty.
-fn clear(cells: &mut CellArray, from: usize, l: usize)
-    requires { (from ≤ l) × (l ≤ cell_places) × (length cells.old ≡ cell_places) }
-    ensures { EmptiedFrom from l cells.old cells.new }
-{
-    let mut i = from;
-    while i < l {
-        cells[i] = 0;
-        i += 1;
-    }
+    cells[..l]
+        .iter()
+        .position(|&cell| HELD <= cell)
+        .unwrap_or(l)
 }
 
 // The m oldest of l cells leave, and as many empty ones come.
@@ -59,18 +31,8 @@ pub fn shift_by(cells: &mut CellArray, l: usize, m: usize)
     requires { (m ≤ l) × (l ≤ cell_places) × (length cells.old ≡ cell_places) }
     ensures { ShiftedBy l m cells.old cells.new }
 {
-    move_down(cells, l, m);
-    clear(cells, l - m, l);
-}
-
-// Whether a queue was chosen.
-fn some_queue(chosen: Chosen) -> bool
-    ensures { result ≡ some_queue (chosen_in chosen) }
-{
-    match chosen {
-        Chosen::Nothing => false,
-        Chosen::Queue(q) => true,
-    }
+    cells.copy_within(m..l, 0);
+    cells[l - m..l].fill(0);
 }
 
 // Whether a move would find a queue to write or a queue to read; the scan starts behind the leading empty cells.
@@ -81,20 +43,16 @@ pub fn move_due(
     regs: Regs,
     empties: usize,
 ) -> bool
-    requires { (accepts paper_limits (sizes_in regs) ≡ true) × (length cells.now ≡ cell_places)
-        × (length tails.now ≡ queue_places) × (length heads.now ≡ queue_places)
+    requires { (accepts paper_limits (sizes_in regs) ≡ true)
         × (all_of (cell_below queue_places) (cells_in (lookahead (sizes_in regs)) cells.now) ≡ true)
         × (empties ≡ leading_empties (cells_in (lookahead (sizes_in regs)) cells.now)) }
     ensures { result ≡ move_due (sizes_in regs) (counts_in tails.now) (counts_in heads.now)
         (cells_in (lookahead (sizes_in regs)) cells.now) }
 {
-    let written = caches::fullest_of(tails, regs.queues, regs.block as u16);
-    if some_queue(written) {
-        return true;
-    }
-    let stopped = lookahead::scan(cells, empties, regs.queues * (regs.block - 1) + 1, *heads);
-    let read = stopped.found;
-    some_queue(read)
+    caches::fullest_of(tails, regs.queues, regs.block as u16).is_some()
+        || lookahead::scan(cells, empties, regs.queues * (regs.block - 1) + 1, *heads)
+            .found
+            .is_some()
 }
 
 // How many of n idle slots are surely quiet, where so many leading cells are empty and `due` says whether a move may
@@ -104,13 +62,12 @@ pub fn quiet_count(regs: Regs, empties: usize, due: bool, n: usize) -> usize
     ensures { result ≡ quiet_of (sizes_in regs) regs.phase empties due n }
 {
     if due {
-        let before = minmax::smaller(empties, regs.block - 1 - regs.phase);
-        return minmax::smaller(n, before);
+        return n.min(empties.min(regs.block - 1 - regs.phase));
     }
     if empties == regs.queues * (regs.block - 1) + 1 {
         return n;
     }
-    minmax::smaller(n, empties)
+    n.min(empties)
 }
 
 // The phase m slots later.

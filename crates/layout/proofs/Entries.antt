@@ -1,7 +1,7 @@
 -- The first n entries of an array as bytes: one more of them, one stored behind them, and the byte at a place.
 use mathlib.Core.Path.{◌≡◌, refl, ap, ◌∙◌}
 use mathlib.Core.List.{List, [], ◌∷◌, ◌++◌, map-append}
-use Prim.Native.Nat.{ℕ, ◌+◌, ◌-◌, ◌*◌, ◌≤◌, ◌<◌}
+use Prim.Native.Nat.{ℕ, ◌+◌, ◌*◌, ◌≤◌, ◌<◌}
 use native.Mathlib.Numerals.{add-one}
 use lib.Arith.{digits_div, digits_mod}
 use lib.ListN.{length, take, set, get_or, length-map, get_or-map}

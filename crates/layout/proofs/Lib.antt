@@ -12,5 +12,7 @@ pub mod Rings
 -- A state from its parts, and a fresh one.
 pub mod States
 pub mod Fresh
+-- Refusals and their numbers.
+pub mod Refusals
 -- A small state and its call, read.
 pub mod Example

@@ -2,6 +2,7 @@
 use Rattle.std.specs.Prelude.{◌≡◌, List, ℕ, length}
 use Rattle.model.specs.State.{Byte, Cell, State, count_of, owed_of}
 use Rattle.layout.specs.Lengths.{queue_places}
+use Rattle.layout.specs.declared.QueueCounts.{QueueCounts}
 use Rattle.layout.specs.Entries.{counts_in}
 
 pub record ByQueue : Type 0 where
@@ -11,6 +12,9 @@ pub record ByQueue : Type 0 where
 
 abbrev pub by_queue : List ℕ → List ℕ → List ℕ → ByQueue
 by_queue t h o = record { tails = t; heads = h; owing = o }
+
+abbrev pub counts_of : QueueCounts → ByQueue
+counts_of r = by_queue r.tails r.heads r.owing
 
 -- An array of counts, one for each queue, holds these.
 pub record CountsAre (counts : List ℕ) (f : ℕ → ℕ) : Type 0 where

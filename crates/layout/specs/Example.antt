@@ -1,19 +1,18 @@
 -- A small state, its call and its answer, read out of registers, arrays and values: numbers that are all different, so
 -- that two in each other's place would be seen. Entries are in hex: queue and value of a byte are two digits each, and
 -- a cell has its kind before them. Each array is longer than what is read of it.
-use Rattle.std.specs.Prelude.{◌≡◌, true, false, List, [], ◌∷◌, ℕ, length, replicate}
+use Rattle.std.specs.Prelude.{◌≡◌, true, false, List, [], ◌∷◌, ℕ, length, replicate, Some, None, Ok, Err}
 use Rattle.std.proofs.Math.Option.{some, none}
 use Rattle.model.specs.Basics.{tabulate}
 use Rattle.model.specs.Sizes.{sizes}
 use Rattle.model.specs.State.{byte, empty, held, owed, ring, State, state_from}
+use Rattle.model.specs.Slot.{number_alone}
 use Rattle.model.specs.Calls.{both, idle}
-use Rattle.layout.specs.declared.Chosen.TheVariants.{Queue, Nothing}
-use Rattle.layout.specs.declared.Arrival.TheVariants.{Comes, NoArrival}
-use Rattle.layout.specs.declared.Request.TheVariants.{Asks, NoRequest}
-use Rattle.layout.specs.declared.Delivery.TheVariants.{Gives, NoDelivery}
-use Rattle.layout.specs.declared.Reply.{Reply}
+use Rattle.layout.specs.declared.Byte.{Byte}
+use Rattle.layout.specs.declared.Outcome.{Outcome}
+use Rattle.layout.specs.declared.Refusal.TheVariants.{TailFull}
 use Rattle.layout.specs.declared.Regs.{Regs}
-use Rattle.layout.specs.Calls.{arrival_in, request_in, delivery_in, chosen_in, refill_in, call_in, reply_in}
+use Rattle.layout.specs.Calls.{arrival_in, request_in, delivery_in, chosen_in, refill_in, call_in, request_number_in, reply_in}
 use Rattle.layout.specs.Counts.{ByQueue, CountsAre, Tallies}
 use Rattle.layout.specs.Views.{Arrays, Long, state_in}
 use Rattle.layout.specs.Lent.{Lent, found, left, counts_found, counts_left}
@@ -52,16 +51,18 @@ example_state =
     (ring 1 2 ∷ ring 0 0 ∷ ring 3 1 ∷ [])
     5 6 1
 
--- What no slot tells, each number another one.
-abbrev pub example_reply : Reply
-example_reply = record {
-  number = 1;
-  arrival_number = 2;
-  request_number = 3;
-  delivery = Gives 4 5;
-  written = Queue 6;
-  read = Queue 7;
-  slots_left = 8;
+-- A byte of the code's.
+abbrev code_byte : ℕ → ℕ → Byte
+code_byte q v = record { queue = q; value = v }
+
+-- What a slot did that dropped its arrival, each number another one.
+abbrev pub example_outcome : Outcome
+example_outcome = record {
+  arrival_dropped = true;
+  request_dropped = false;
+  delivery = Some (code_byte 4 6);
+  written = Some 8;
+  read = Some (record { queue = 9; slots_left = 10 });
 }
 
 -- The counts by queue beside that state, in arrays of 64.
@@ -94,26 +95,29 @@ pub record FiguresAre (f : Figures) : Type 0 where
 
 pub record ExampleReads : Type 0 where
   pub state_is : state_in example_regs example_arrays ≡ example_state
-  pub arrival_is : arrival_in (Comes 1 65) ≡ some (byte 1 65)
-  pub no_arrival : arrival_in NoArrival ≡ none
-  pub request-is : request_in (Asks 2) ≡ some 2
-  pub no_request : request_in NoRequest ≡ none
-  pub delivery_is : delivery_in (Gives 1 66) ≡ some (byte 1 66)
-  pub no_delivery : delivery_in NoDelivery ≡ none
-  pub chosen_is : chosen_in (Queue 2) ≡ some 2
-  pub none_chosen : chosen_in Nothing ≡ none
-  pub refill_is : refill_in (record { queue = Queue 2; slots_left = 3 }) ≡ record { queue = some 2; slots_left = 3 }
-  pub reply_is : reply_in example_reply ≡ record {
-    number = 1;
-    arrival_number = 2;
-    request_number = 3;
-    delivered = some (byte 4 5);
-    written = some 6;
-    read = some 7;
-    slots_left = 8;
+  pub arrival_is : arrival_in (Some (code_byte 1 65)) ≡ some (byte 1 65)
+  pub no_arrival : arrival_in None ≡ none
+  pub request-is : request_in (Some 2) ≡ some 2
+  pub no_request : request_in None ≡ none
+  pub delivery_is : delivery_in (Some (code_byte 1 66)) ≡ some (byte 1 66)
+  pub no_delivery : delivery_in None ≡ none
+  pub chosen_is : chosen_in (Some 2) ≡ some 2
+  pub none_chosen : chosen_in None ≡ none
+  pub refill_is : refill_in (Some (record { queue = 2; slots_left = 3 })) ≡ record { queue = some 2; slots_left = 3 }
+  pub no_refill_is : refill_in None ≡ record { queue = none; slots_left = 0 }
+  pub reply_is : reply_in (Ok example_outcome) ≡ record {
+    number = 0;
+    arrival_number = 5;
+    request_number = 0;
+    delivered = some (byte 4 6);
+    written = some 8;
+    read = some 9;
+    slots_left = 10;
   }
-  pub call_is : call_in (Comes 1 65) (Asks 2) ≡ both 1 65 2
-  pub call_idle : call_in NoArrival NoRequest ≡ idle
+  pub request_dropped_is : request_number_in (record example_outcome { request_dropped = true }) ≡ 7
+  pub reply_refused : reply_in (Err TailFull) ≡ number_alone 9
+  pub call_is : call_in (record { arrival = Some (code_byte 1 65); request = Some 2 }) ≡ both 1 65 2
+  pub call_idle : call_in (record { arrival = None; request = None }) ≡ idle
   pub counts_are : Tallies example_state example_counts
   pub figures_counted : FiguresAre (figures_of example_state)
   pub figures_kept : FiguresAre (figures_in example_regs example_counts example_arrays.stored)

@@ -3,91 +3,91 @@
 #![tactic(auto)]
 
 ghost use Rattle.std.specs.Prelude.{◌≡◌, ◌<◌};
-ghost use Rattle.model.specs.Slot.{number_alone};
-ghost use Rattle.layout.specs.Calls.{chosen_in, refill_at, refill_in, reply_in};
+ghost use Rattle.layout.specs.Calls.{chosen_in, refill_at, refill_in, number_of};
 ghost use Rattle.layout.specs.Example.{ExampleReads};
 ghost use Rattle.layout.specs.Views.{regs_in};
 
-// The byte that arrives, as queue and value, or none.
-#[derive(Clone, Copy)]
-pub enum Arrival {
-    Comes(u8, u8),
-    NoArrival,
+/// A byte of a queue, as it arrives and as it leaves.
+#[derive(Clone, Copy, PartialEq, Eq, Debug)]
+pub struct Byte {
+    pub queue: u8,
+    pub value: u8,
 }
 
-// The queue that a byte is requested of, or none.
-#[derive(Clone, Copy)]
-pub enum Request {
-    Asks(u8),
-    NoRequest,
+/// What a slot is asked: the byte that arrives, and the queue that a byte is requested of.
+#[derive(Clone, Copy, PartialEq, Eq, Debug, Default)]
+pub struct Call {
+    pub arrival: Option<Byte>,
+    pub request: Option<u8>,
 }
 
-// The byte that a slot delivers, as queue and value, or none.
-#[derive(Clone, Copy)]
-pub enum Delivery {
-    Gives(u8, u8),
-    NoDelivery,
-}
-
-// A queue that is written or read, or none.
-#[derive(Clone, Copy)]
-pub enum Chosen {
-    Queue(u8),
-    Nothing,
-}
-
-// The block that is to be read: its queue or none, and in how many slots the cell leaves that it is for, else 0.
-#[derive(Clone, Copy)]
+/// A block that is read: its queue, and in how many slots the cell leaves that it is for.
+#[derive(Clone, Copy, PartialEq, Eq, Debug)]
 pub struct Refill {
-    pub queue: Chosen,
+    pub queue: u8,
     pub slots_left: u16,
 }
 
-// The choice of a queue for the cell at a place, the oldest being 1. Without a queue the place is not looked at, and slots
-// left are 0.
-pub fn refill_at(queue: Chosen, place: usize) -> Refill
+// The choice of a queue for the cell at a place, the oldest being 1. Without a queue the place is not looked at.
+pub fn refill_at(queue: Option<u8>, place: usize) -> Option<Refill>
     requires { place < 65536 }
     ensures { refill_in result ≡ refill_at (chosen_in queue) place }
 {
-    match queue {
-        Chosen::Queue(q) => Refill {
-            queue: Chosen::Queue(q),
-            slots_left: place as u16,
-        },
-        Chosen::Nothing => Refill {
-            queue: Chosen::Nothing,
-            slots_left: 0,
-        },
+    let queue = queue?;
+    Some(Refill {
+        queue,
+        slots_left: place as u16,
+    })
+}
+
+/// What a slot does that is not refused: whether it drops its arrival (the paper's 5) and its request (7), what it
+/// delivers, the queue that it writes a block of, the block that it reads.
+#[derive(Clone, Copy, PartialEq, Eq, Debug, Default)]
+pub struct Outcome {
+    pub arrival_dropped: bool,
+    pub request_dropped: bool,
+    pub delivery: Option<Byte>,
+    pub written: Option<u8>,
+    pub read: Option<Refill>,
+}
+
+/// Why a state is not made, or a slot does not happen: the paper's numbers, and from 20 on those of the packet layer.
+#[derive(Clone, Copy, PartialEq, Eq, Debug)]
+pub enum Refusal {
+    /// The sizes are not within the limits.
+    Sizes = 1,
+    /// The store is too short for the sizes.
+    ShortStore = 2,
+    /// The state breaks a rule.
+    BrokenRules = 3,
+    /// The arrival's queue is not one of the state's.
+    UnknownArrival = 4,
+    /// The request's queue is not one of the state's.
+    UnknownRequest = 6,
+    /// The cell that leaves is Owed, and the head has no byte of its queue.
+    ByteMissing = 8,
+    /// The tail has no place for the arrival.
+    TailFull = 9,
+    /// The head has no place for the block that is read.
+    HeadFull = 10,
+    /// A packet's length is out of the range, or a byte comes next of no packet.
+    PacketLength = 20,
+    /// A packet starts while another one comes in, or its queue's list is full.
+    PacketPlace = 21,
+    /// A packet is longer than its queue's free store.
+    PacketRoom = 22,
+}
+
+impl From<Refusal> for u8 {
+    ghost from_gives = { λ refusal n. n ≡ number_of refusal };
+
+    fn from(refusal: Refusal) -> u8 {
+        refusal as u8
     }
 }
 
-// What a slot tells: the paper's number or 0, the number of each half that was dropped, 5 and 7, or 0, the
-// delivery, the queues written and read, and at a read in how many slots the cell leaves that it was for, else 0.
-#[derive(Clone, Copy)]
-pub struct Reply {
-    pub number: u8,
-    pub arrival_number: u8,
-    pub request_number: u8,
-    pub delivery: Delivery,
-    pub written: Chosen,
-    pub read: Chosen,
-    pub slots_left: u16,
-}
-
-// A number, and nothing else to tell.
-pub fn number_alone(number: u8) -> Reply
-    ensures { reply_in result ≡ number_alone number }
-{
-    Reply {
-        number: number,
-        arrival_number: 0,
-        request_number: 0,
-        delivery: Delivery::NoDelivery,
-        written: Chosen::Nothing,
-        read: Chosen::Nothing,
-        slots_left: 0,
-    }
-}
+/// What a slot tells: what it did, or why it was refused.
+pub type Reply = Result<Outcome, Refusal>;
 
 // A cell is kind × 65,536 + queue × 256 + value: below `HELD` it is empty, from `OWED` on it is Owed.
 pub const EMPTY: u32 = 0;
@@ -106,6 +106,10 @@ pub const CELL_PLACES: usize = 2017;
 
 pub const QUEUE_PLACES: usize = 64;
 
+// C callers lend each array by itself, and there is no heap: so a cache is an array with its fill beside it among the
+// registers, and what there is of each queue lies in an array for each number. What runs slots takes them one by one as
+// well: a struct of borrows is taken apart and put together again wherever one of them is lent on, which is longer.
+
 // A byte of a cache is queue × 256 + value.
 pub type TailArray = [u16; TAIL_PLACES];
 
@@ -117,6 +121,14 @@ pub type CellArray = [u32; CELL_PLACES];
 pub type RingArray = [u8; QUEUE_PLACES];
 
 pub type CountArray = [u16; QUEUE_PLACES];
+
+/// Counts by queue, which are kept beside a state: tail bytes, head bytes, Owed cells.
+#[derive(Clone, Copy)]
+pub struct QueueCounts {
+    pub tails: CountArray,
+    pub heads: CountArray,
+    pub owing: CountArray,
+}
 
 // Sizes, phase, fills, high marks and the last one asked: all of a state but its arrays. `block` is bytes to a block,
 // `depth` blocks to a queue's ring, `last_asked` the queue that the round robin arbiter asked last.

@@ -1,66 +1,73 @@
 -- One turn of each loop over the lookahead: what the loop has done so far it has done with one cell more. Each loop
 -- has a record of what it has done; its laws are the start, the turns and the end.
-use mathlib.Core.Path.{◌≡◌, refl, ap, ◌∙◌}
-use mathlib.Core.List.{List, [], ◌∷◌, ◌++◌}
+use mathlib.Core.Path.{◌≡◌, refl, ap, sym, ◌∙◌}
+use mathlib.Core.Bool.{not, ◌&&◌}
+use mathlib.Core.List.{List, [], ◌∷◌, ◌++◌, map}
 use mathlib.Core.Option.{some, none}
-use Prim.Native.Nat.{ℕ, zero, suc, ◌+◌, ◌-◌, ◌≤◌, ◌<◌}
+use Prim.Native.Nat.{ℕ, zero, suc, ◌+◌, ◌-◌, ◌/◌, ◌%◌, ◌≤◌, ◌<◌}
 use native.Mathlib.Omega.{arith}
 use lib.Dec.{eqb, leb}
-use lib.ListN.{length, drop, set, get_or, replicate, length-set, length-replicate, drop_of_length-le}
-use lib.Seq.{drop-append-le, get_or-set_other, set-get_or}
+use lib.ListN.{length, take, drop, length-drop, set, get_or, replicate, length-set, length-replicate, drop_of_length-le}
+use lib.Seq.{take-paste, length-paste, set-get_or}
+use Rattle.std.specs.List.{copy_within, list_all}
+use Rattle.std.proofs.lemmas.List.{drop-take, drop-map}
 use mir.Val.{bool_byte}
-use borrow.Author.Tests.{eqb-true, eqb-false, leb-true, leb-false}
-use Rattle.model.specs.State.{Cell, empty, held, owed, owes, owed_of}
+use borrow.Author.Tests.{eqb-true, eqb-false, leb-true, leb-false, lt-ltb, le-ltb}
+use Rattle.model.specs.State.{Cell, empty, held, owed, owes, owed_of, cell_below}
+use Rattle.model.specs.Basics.{all_of}
 use Rattle.model.specs.Slot.{refill_place, refill_by, onward}
 use Rattle.model.proofs.basics.Tests.{by_test}
 use Rattle.model.proofs.meaning.Place.{refill_stops, refill_goes_on, onward-on, places_on_none}
 use Rattle.layout.specs.Lengths.{queue_places}
-use Rattle.layout.specs.Entries.{counts_in, cells_in}
+use Rattle.layout.specs.Entries.{counts_in, cell_of, cells_in}
 use Rattle.layout.proofs.Counts.{counts_zero, counts_stored}
 use Rattle.lookahead.specs.Says.{Shifted, EmptyTo, Scanned}
 use Rattle.layout.specs.Counts.{TallyOwed}
-use Rattle.layout.proofs.Cells.{queue_at, cell_owed, cell_owes_nothing, cell_skipped, no_cells, cells_length}
-use Rattle.layout.proofs.Cells.{cells_more, cells_stored, owed_more, cells_from}
+use Rattle.layout.proofs.Cells.{queue_at, cell_owed, cell_owes_nothing, cell_skipped, cell_below_lem, empty_below, no_cells, cells_length}
+use Rattle.layout.proofs.Cells.{cells_stored, owed_more, cells_from}
 
--- The shift before turn i: i cells have moved down, and those from i on are where they were.
-pub record ShiftedTo (i l : ℕ) (before after : List ℕ) : Type 0 where
-  pub within : i + 1 ≤ l
-  pub same_length : length after ≡ length before
-  pub moved : cells_in i after ≡ drop 1 (cells_in (i + 1) before)
-  pub others : (k : ℕ) → i ≤ k → get_or after k 0 ≡ get_or before k 0
+-- The cells from place m to l, copied to the front, are those of l without the first m.
+pub moved_down : (l m : ℕ) (xs : List ℕ) → m ≤ l → l ≤ length xs
+    → cells_in (l - m) (copy_within xs m l 0) ≡ drop m (cells_in l xs)
+unfolding cells_in
+moved_down l m xs h fits =
+    let z : l - m ≡ 0 + (l - m) = omega arith in
+    let e : m + (l - m) ≡ l = omega arith in
+    ap (map cell_of)
+    (ap (λ (k : ℕ). take k (copy_within xs m l 0)) z
+    ∙ take-paste xs 0 (drop m xs) (l - m) (omega arith) (simp length-drop (omega arith))
+    ∙ sym (drop-take m (l - m) xs)
+    ∙ ap (λ (k : ℕ). drop m (take k xs)) e)
+    ∙ sym (drop-map cell_of m (take l xs))
 
-pub shift_starts : {l : ℕ} (xs : List ℕ) → 1 ≤ l → l ≤ length xs → ShiftedTo 0 l xs xs
-shift_starts xs some_cell fits = record {
-  within = some_cell;
-  same_length = refl;
-  moved = rw (cells_more 0 xs (omega arith), no_cells);
-  others = λ k h. refl;
-}
+pub moved_long : (l m : ℕ) (xs : List ℕ) → m ≤ l → l ≤ length xs → length (copy_within xs m l 0) ≡ length xs
+moved_long l m xs h fits = length-paste xs 0 (drop m xs) (l - m) (omega arith) (simp length-drop (omega arith))
 
-module _ {i l : ℕ} {before after : List ℕ} (fits : l ≤ length before) (w : ShiftedTo i l before after) where
-  pub shift_moves : i + 1 < l → ShiftedTo (i + 1) l before (set after i (get_or after (i + 1) 0))
-  shift_moves more =
-      let oldest : 1 ≤ length (cells_in (i + 1) before) = omega (arith, cells_length (i + 1) before (omega arith)) in
-      record {
-        within = omega arith;
-        same_length = length-set after i (get_or after (i + 1) 0) ∙ w.same_length;
-        moved =
-            cells_stored i after (get_or after (i + 1) 0) (omega (arith, w.same_length))
-            ∙ rw (
-              w.moved,
-              w.others (i + 1) (omega arith),
-              cells_more (i + 1) before (omega arith),
-              drop-append-le 1 (cells_in (i + 1) before),
-            );
-        others = λ k h.
-            get_or-set_other after i k (get_or after (i + 1) 0) 0 (λ e. omega arith) ∙ w.others k (omega arith);
-      }
+pub shift_ends : (l cell : ℕ) (xs : List ℕ) → 1 ≤ l → l ≤ length xs
+    → Shifted l cell xs (set (copy_within xs 1 l 0) (l - 1) cell)
+shift_ends l cell xs h fits =
+    let e : l ≡ l - 1 + 1 = omega arith in
+    record {
+      cells_are =
+          ap (λ (k : ℕ). cells_in k (set (copy_within xs 1 l 0) (l - 1) cell)) e
+          ∙ cells_stored (l - 1) (copy_within xs 1 l 0) cell (omega (arith, moved_long l 1 xs h fits))
+          ∙ ap (λ (cells : List Cell). cells ++ cell_of cell ∷ []) (moved_down l 1 xs h fits);
+      same_length = length-set (copy_within xs 1 l 0) (l - 1) cell ∙ moved_long l 1 xs h fits;
+    }
 
-  pub shift_ends : (cell : ℕ) → i + 1 ≡ l → Shifted l cell before (set after i cell)
-  shift_ends cell last = record {
-    cells_are = rw (← last) (cells_stored i after cell (omega (arith, w.same_length)) ∙ rw w.moved);
-    same_length = length-set after i cell ∙ w.same_length;
-  }
+-- The test of the numbers is that of the cells.
+cell-is_below : (queues x : ℕ) → not (leb 65536 x && leb queues (x / 256 % 256)) ≡ cell_below queues (cell_of x)
+cell-is_below queues x =
+    by_test (leb 65536 x)
+    (λ t. by_test (leb queues (x / 256 % 256))
+    (λ u. rw (t, u, cell_below_lem x queues (leb-true 65536 x t), le-ltb (x / 256 % 256) queues (leb-true queues (x / 256 % 256) u)))
+    (λ u. rw (t, u, cell_below_lem x queues (leb-true 65536 x t), lt-ltb (x / 256 % 256) queues (leb-false queues (x / 256 % 256) u))))
+    (λ t. rw (t, empty_below x queues (leb-false 65536 x t)))
+
+pub cells-are_below : (queues : ℕ) (xs : List ℕ)
+    → list_all (λ x. not (leb 65536 x && leb queues (x / 256 % 256))) xs ≡ all_of (cell_below queues) (map cell_of xs)
+cells-are_below queues [] = refl
+cells-are_below queues (x ∷ xs) = rw (cell-is_below queues x, cells-are_below queues xs)
 
 -- The scan before cell i: whatever follows, it answers as the scan of the cells from i on with the credits left, so
 -- many places on.

@@ -11,31 +11,28 @@ ghost use Rattle.layout.specs.Calls.{chosen_in};
 ghost use Rattle.layout.specs.Counts.{CountsAre, TallyOwed};
 ghost use Rattle.lookahead.specs.Says.{Shifted, EmptyTo, Scanned, spent};
 
-use layout::{Chosen, CountArray, HELD, OWED, QUEUE_PLACES};
+use layout::{CountArray, HELD, OWED, QUEUE_PLACES};
 
 // The oldest of l cells leaves, and `cell` comes in as the youngest.
 pub fn shift(cells: &mut [u32], l: usize, cell: u32)
     requires { (1 ≤ l) × (l ≤ length cells.old) }
     ensures { Shifted l cell cells.old cells.new }
 {
-    let mut i: usize = 0;
-    while i + 1 < l {
-        cells[i] = cells[i + 1];
-        i += 1;
-    }
+    cells.copy_within(1..l, 0);
     cells[l - 1] = cell;
 }
 
 // Where a scan stopped: at a queue's cell, or behind the last one; which place that is, and the credits that it left.
 #[derive(Drop)]
 pub struct Stopped {
-    pub found: Chosen,
+    pub found: Option<u8>,
     pub place: usize,
     pub left: CountArray,
 }
 
 // A place up to which the cells from `from` on are empty. They are looked at by two with one test, so that an empty
 // lookahead is passed in half the time; a test for each would be guessed wrongly where empty cells come now and then.
+// The place is counted by hand: a chain over `chunks_exact(2)` takes half as long again.
 fn past_empties(cells: &[u32], from: usize, l: usize) -> usize
     requires { (from ≤ l) × (l ≤ length cells.now) }
     ensures { EmptyTo from result l cells.now }
@@ -52,7 +49,8 @@ fn past_empties(cells: &[u32], from: usize, l: usize) -> usize
     i
 }
 
-// Scans the cells from `from` to l, and stops at the first Owed cell that its queue's credits do not cover.
+// Scans the cells from `from` to l, and stops at the first Owed cell that its queue's credits do not cover. The place
+// goes on by as many cells as are passed at once, so it is counted by hand.
 pub fn scan(cells: &[u32], from: usize, l: usize, credits: CountArray) -> Stopped
     requires { (from ≤ l) × (l ≤ length cells.now)
         × (all_of (cell_below queue_places) (cells_in l cells.now) ≡ true) }
@@ -64,7 +62,7 @@ pub fn scan(cells: &[u32], from: usize, l: usize, credits: CountArray) -> Stoppe
     let mut i = from;
     let found = loop {
         if i == l {
-            break Chosen::Nothing;
+            break None;
         }
         let c = cells[i];
         if HELD <= c {
@@ -72,9 +70,9 @@ pub fn scan(cells: &[u32], from: usize, l: usize, credits: CountArray) -> Stoppe
             let q = (c / 256 % 256) as usize;
             let owes = (OWED <= c) as u16;
             if left[q] < owes {
-                break Chosen::Queue(q as u8);
+                break Some(q as u8);
             }
-            left[q] = left[q] - owes;
+            left[q] -= owes;
             i += 1;
         } else {
             i = past_empties(cells, i + 1, l);
@@ -87,21 +85,19 @@ pub fn scan(cells: &[u32], from: usize, l: usize, credits: CountArray) -> Stoppe
     }
 }
 
-// Of each queue its Owed cells among the first n.
+// Of each queue its Owed cells among the first n. `caches::tally` differs in what counts and of which queue: one function
+// over closures for both would be no plainer, with their contracts to state.
 pub fn tally_owed(cells: &[u32], n: usize) -> CountArray
     requires { (n ≤ cell_places) × (n ≤ length cells.now)
         × (all_of (cell_below queue_places) (cells_in n cells.now) ≡ true) }
     ensures { TallyOwed result (cells_in n cells.now) }
 {
     let mut counts = [0u16; QUEUE_PLACES];
-    let mut i: usize = 0;
-    while i < n {
-        let cell = cells[i];
+    for &cell in &cells[..n] {
         if OWED <= cell {
             let q = (cell / 256 % 256) as usize;
-            counts[q] = counts[q] + 1;
+            counts[q] += 1;
         }
-        i += 1;
     }
     counts
 }
@@ -114,22 +110,15 @@ pub fn spend(counts: &mut CountArray, leaving: u32)
 {
     if OWED <= leaving {
         let q = (leaving / 256 % 256) as usize;
-        counts[q] = counts[q] - 1;
+        counts[q] -= 1;
     }
 }
 
-// Whether the first n cells are all empty or of queues below `queues`.
+// Whether the first n cells are all empty or of queues below `queues`; `caches::all_below` is the same chain over another
+// test.
 pub fn all_below(cells: &[u32], n: usize, queues: usize) -> bool
     requires { n ≤ length cells.now }
     ensures { result ≡ all_of (cell_below queues) (cells_in n cells.now) }
 {
-    let mut i: usize = 0;
-    while i < n {
-        let c = cells[i];
-        if HELD <= c && queues <= (c / 256 % 256) as usize {
-            return false;
-        }
-        i += 1;
-    }
-    true
+    cells[..n].iter().all(|&cell| !(HELD <= cell && queues <= (cell / 256 % 256) as usize))
 }

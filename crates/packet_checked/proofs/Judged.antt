@@ -6,7 +6,7 @@ use Prim.Native.Nat.{ℕ, zero, suc}
 use native.Mathlib.Omega.{arith}
 use lib.Dec.{eqb, ltb}
 use lib.ListN.{length, drop}
-use borrow.Author.Tests.{eq-eqb, ne_eqb}
+use Rattle.std.specs.Prelude.{Result}
 use Rattle.model.specs.Basics.{choose, when, first_refusal}
 use Rattle.model.specs.Sizes.{paper, store_bytes}
 use Rattle.model.specs.State.{State, keeps}
@@ -18,7 +18,8 @@ use Rattle.layout.specs.Calls.{reply_in}
 use Rattle.layout.specs.Counts.{ByQueue}
 use Rattle.layout.specs.Views.{Arrays, Long, sizes_in, state_in}
 use Rattle.layout.specs.declared.Regs.{Regs}
-use Rattle.layout.specs.declared.Reply.{Reply}
+use Rattle.layout.specs.declared.Outcome.{Outcome}
+use Rattle.layout.specs.declared.Refusal.{Refusal}
 use Rattle.packet_layout.specs.declared.PacketRegs.{PacketRegs}
 use Rattle.packet_layout.specs.declared.PacketReply.{PacketReply}
 use Rattle.packet_layout.specs.Views.{packet_regs_in, record_in, ListsLong}
@@ -30,18 +31,7 @@ use Rattle.packet_in_place.specs.Says.{RecordArrays, record_of, RecordReady, Pac
 use Rattle.packet_in_place.proofs.Composed.{first_stays, stop_is}
 use Rattle.packet_checked.specs.Says.{with_record, packet_judged, PacketLeaveSays}
 
--- The number with the record's rules, by what its tests found.
-pub state_broken : (n : ℕ) (kept : Bool) → n ≡ 3 → 3 ≡ with_record n kept
-state_broken n kept e = rw (eq-eqb n 3 e)
-
-module _ (n : ℕ) (kept : Bool) (f : n ≡ 3 → ⊥) where
-  pub record_kept : true ≡ kept → n ≡ with_record n kept
-  record_kept t = rw (ne_eqb n 3 f, ← t)
-
-  pub record_broken : false ≡ kept → 3 ≡ with_record n kept
-  record_broken t = rw (ne_eqb n 3 f, ← t)
-
--- It is what the request says of both together.
+-- The number with the record's rules is what the request says of both together.
 as_request : (kept record_kept short : Bool)
     → with_record (first_refusal (when (not kept) 3 ∷ when short 2 ∷ [])) record_kept
     ≡ first_refusal (when (not (kept && record_kept)) 3 ∷ when short 2 ∷ [])
@@ -99,8 +89,8 @@ module _ {regs : Regs} (m : Arrays) (store : List ℕ) (p : RecordArrays) {befor
         when (ltb (length store) (store_bytes (sizes_in regs))) 2 ∷ [])
         (drop 2 (packet_refusals paper x store rec call)) (sym e)
 
-    pub slot-stopped : (call : PacketCall) {told : Reply} → (k ≡ 0 → ⊥) → reply_in told ≡ number_alone k → Long m
-        → PacketAdvanceSays regs m store p call (record { reply = told; packet_number = 0 }) regs m store p
+    pub slot-stopped : (call : PacketCall) {told : Result Outcome Refusal} → (k ≡ 0 → ⊥) → reply_in told ≡ number_alone k → Long m
+        → PacketAdvanceSays regs m store p call (record { reply = told; packet_dropped = false }) regs m store p
         × PacketLeaveSays regs m counts store p regs m counts' store p
     slot-stopped call f alone long = (
       record {

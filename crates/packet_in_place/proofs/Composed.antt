@@ -9,6 +9,7 @@ use native.Mathlib.Omega.{arith}
 use lib.Dec.{ltb}
 use lib.ListN.{length}
 use borrow.Author.Tests.{le-ltb, leb-false}
+use Rattle.std.specs.Prelude.{Result}
 use Rattle.model.specs.Basics.{when, first_refusal}
 use Rattle.model.specs.Sizes.{Sizes, paper, store_bytes}
 use Rattle.model.specs.State.{Byte, State, keeps}
@@ -28,7 +29,8 @@ use Rattle.layout.specs.Entries.{counts_in}
 use Rattle.layout.specs.Figures.{Figures, figures_in}
 use Rattle.layout.specs.Views.{Arrays, sizes_in, state_in}
 use Rattle.layout.specs.declared.Regs.{Regs}
-use Rattle.layout.specs.declared.Reply.{Reply}
+use Rattle.layout.specs.declared.Outcome.{Outcome}
+use Rattle.layout.specs.declared.Refusal.{Refusal}
 use Rattle.packet_layout.specs.Views.{packet_regs_in, incoming_of, QueueFits}
 use Rattle.packet_layout.specs.declared.PacketRegs.{PacketRegs}
 use Rattle.packet_record.specs.Says.{TurnFacts}
@@ -127,8 +129,8 @@ module _ {regs : Regs} {m : Arrays} {counts : ByQueue} {store : List ℕ} (ready
   own_first (suc n) f e = refusal_is ∙ first_stays own (buffer_number ∷ []) (sym e)
 
   -- The layer stops the slot: nothing has changed.
-  pub stopped : {n : ℕ} {told : Reply} → n ≡ first_refusal own → (n ≡ 0 → ⊥) → reply_in told ≡ number_alone n
-      → PacketAdvanceSays regs m store p call (record { reply = told; packet_number = 0 }) regs m store p
+  pub stopped : {n : ℕ} {told : Result Outcome Refusal} → n ≡ first_refusal own → (n ≡ 0 → ⊥) → reply_in told ≡ number_alone n
+      → PacketAdvanceSays regs m store p call (record { reply = told; packet_dropped = false }) regs m store p
       × Ready regs m counts store × RecordReady regs.queues p
   stopped {n} e f alone = (
     record {
@@ -163,15 +165,15 @@ module _ {regs : Regs} {m : Arrays} {counts : ByQueue} {store : List ℕ} (ready
         omega (arith, (record-facts regs.queues rec v.record_keeps).asked-below, (standing.limits ready).q_high)
 
     -- The slot goes by the buffer's own.
-    module _ {regs₁ : Regs} {answered : Reply} {m' : Arrays} {counts' : ByQueue} {store' : List ℕ}
+    module _ {regs₁ : Regs} {answered : Result Outcome Refusal} {m' : Arrays} {counts' : ByQueue} {store' : List ℕ}
         (one : OneSlotSays regs m store (byte_call rec call) (advanced_to regs₁ answered) m' counts' store') where
       answers : answer_in (advanced_to regs₁ answered) m' store' ≡ slot paper x store (byte_call rec call)
       answers = one.slot_is.answer-is
 
-      told : answered.number ≡ buffer_number
+      told : (reply_in answered).number ≡ buffer_number
       told = ap (λ (a : Answer). a.reply.number) answers
 
-      buffer_first : packet_refusal paper x store rec call ≡ answered.number
+      buffer_first : packet_refusal paper x store rec call ≡ (reply_in answered).number
       buffer_first = refusal_is ∙ last_refusal own buffer_number passed ∙ sym told
 
       same-queues : regs₁.queues ≡ regs.queues
@@ -181,15 +183,15 @@ module _ {regs : Regs} {m : Arrays} {counts : ByQueue} {store : List ℕ} (ready
           (slot_kept paper x store (byte_call rec call) (omega arith) (standing.kept ready)).same-sizes
 
       -- The buffer stops the slot: the record has not changed either.
-      pub buffer_stopped : (answered.number ≡ 0 → ⊥)
-          → PacketAdvanceSays regs m store p call (record { reply = answered; packet_number = 0 }) regs₁ m' store' p
+      pub buffer_stopped : ((reply_in answered).number ≡ 0 → ⊥)
+          → PacketAdvanceSays regs m store p call (record { reply = answered; packet_dropped = false }) regs₁ m' store' p
           × Ready regs₁ m' counts' store' × RecordReady regs₁.queues p
       buffer_stopped f = (
         record {
           answer-is =
               ap (λ (a : Answer). record { answer = a; packet_number = 0; packets = rec })
-              (answers ∙ refused-by answered.number x store (byte_call rec call) f told)
-              ∙ stop_is answered.number x store rec call f buffer_first;
+              (answers ∙ refused-by (reply_in answered).number x store (byte_call rec call) f told)
+              ∙ stop_is (reply_in answered).number x store rec call f buffer_first;
           as_given = λ g. let back = one.as_given g in (back.0, back.1, refl);
         },
         one.slot_is.ready,
@@ -200,7 +202,7 @@ module _ {regs : Regs} {m : Arrays} {counts : ByQueue} {store : List ℕ} (ready
       )
 
       -- The buffer accepts it.
-      module _ (went : answered.number ≡ 0) where
+      module _ (went : (reply_in answered).number ≡ 0) where
         accepted : packet_refusal paper x store rec call ≡ 0
         accepted = buffer_first ∙ went
 
@@ -219,15 +221,15 @@ module _ {regs : Regs} {m : Arrays} {counts : ByQueue} {store : List ℕ} (ready
             fits = accepted-fits paper x store rec call (packet_accepted paper x store rec call accepted)
 
         -- All together.
-        pub composed : {p' : RecordArrays} {number : ℕ}
-            → TakesTurn p call answered.arrival_number answered.request_number number p'
-            → PacketAdvanceSays regs m store p call (record { reply = answered; packet_number = number }) regs₁ m'
+        pub composed : {p' : RecordArrays} {dropped : Bool}
+            → TakesTurn p call (reply_in answered).arrival_number (reply_in answered).request_number dropped p'
+            → PacketAdvanceSays regs m store p call (record { reply = answered; packet_dropped = dropped }) regs₁ m'
             store' p'
             × Ready regs₁ m' counts' store' × RecordReady regs₁.queues p'
         composed {p'} turn = (
           record {
             answer-is =
-                same_answer answers turn.number_is record_is ∙ sym (packet_accepts paper x store rec call accepted);
+                same_answer answers (ap (λ (t : Bool). when t 7) turn.dropped_is) record_is ∙ sym (packet_accepts paper x store rec call accepted);
             as_given = λ f. absurd (f went);
           },
           one.slot_is.ready,

@@ -1,8 +1,9 @@
 -- What one slot of the packet layer on lent arrays promises, by the model's own (document 02, 2.7).
-use Rattle.std.specs.Prelude.{◌≡◌, true, List, ℕ}
+use Rattle.std.specs.Prelude.{◌≡◌, Bool, true, List, ℕ}
 use Rattle.model.specs.Basics.{when}
 use Rattle.model.specs.Sizes.{paper}
 use Rattle.packets.specs.Packets.{PacketRecord, record_keeps, PacketCall, packet_drops, record_after, PacketAnswer, packet_slot}
+use Rattle.layout.specs.Calls.{reply_in}
 use Rattle.layout.specs.Lent.{Array, Lent}
 use Rattle.layout.specs.declared.Regs.{Regs}
 use Rattle.layout.specs.Views.{Arrays, state_in}
@@ -39,10 +40,11 @@ pub record RecordReady (queues : ℕ) (p : RecordArrays) : Type 0 where
   pub lists_long : ListsLong p.lengths p.listed
   pub record_keeps : record_keeps queues (record_of p) ≡ true
 
--- The record's part of an accepted slot: the packet request's own number, and the record as the model's slot leaves it.
-pub record TakesTurn (p : RecordArrays) (call : PacketCall) (arrival_number request_number r : ℕ) (p' : RecordArrays)
-    : Type 0 where
-  pub number_is : r ≡ when (packet_drops (record_of p) call.request) 7
+-- The record's part of an accepted slot: whether the packet request is dropped, and the record as the model's slot
+-- leaves it.
+pub record TakesTurn (p : RecordArrays) (call : PacketCall) (arrival_number request_number : ℕ) (dropped : Bool)
+    (p' : RecordArrays) : Type 0 where
+  pub dropped_is : dropped ≡ packet_drops (record_of p) call.request
   pub record_is : record_of p' ≡ record_after (record_of p) call arrival_number request_number
   pub lists_long : ListsLong p'.lengths p'.listed
 
@@ -50,7 +52,7 @@ pub record TakesTurn (p : RecordArrays) (call : PacketCall) (arrival_number requ
 abbrev pub packet_answer_in : PacketReply → Regs → Arrays → List ℕ → RecordArrays → PacketAnswer
 packet_answer_in r regs m store p = record {
   answer = answer_in (record { regs = regs; reply = r.reply }) m store;
-  packet_number = r.packet_number;
+  packet_number = when r.packet_dropped 7;
   packets = record_of p;
 }
 
@@ -59,4 +61,4 @@ packet_answer_in r regs m store p = record {
 pub record PacketAdvanceSays (regs : Regs) (m : Arrays) (store : List ℕ) (p : RecordArrays) (call : PacketCall)
     (r : PacketReply) (regs' : Regs) (m' : Arrays) (store' : List ℕ) (p' : RecordArrays) : Type 0 where
   pub answer-is : packet_answer_in r regs' m' store' p' ≡ packet_slot paper (state_in regs m) store (record_of p) call
-  pub as_given : (r.reply.number ≡ 0 → ⊥) → (regs' ≡ regs) × (m' ≡ m) × (p' ≡ p)
+  pub as_given : ((reply_in r.reply).number ≡ 0 → ⊥) → (regs' ≡ regs) × (m' ≡ m) × (p' ≡ p)

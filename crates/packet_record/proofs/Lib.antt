@@ -2,9 +2,9 @@
 
 -- The list of each queue in its places: what entering and taking a length change, and what they leave.
 pub mod Lists
--- A loop that moves places down by one.
+-- Places moved down by one.
 pub mod Moving
--- The rules of a record in the order in which the code judges them.
+-- The rules of a record as the code judges them.
 pub mod Judging
 -- A slot's turn of a record.
 pub mod Turning

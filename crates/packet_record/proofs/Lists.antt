@@ -19,7 +19,8 @@ use Rattle.model.proofs.basics.AllOf.{tabulate-at}
 use Rattle.layout.specs.Lengths.{queue_places}
 use Rattle.packets.specs.Packets.{most_listed}
 use Rattle.packet_layout.specs.Views.{list_in, ListsLong}
-use Rattle.packet_record.specs.Says.{ShortBefore, EnterSays, MovedDown, TakeSays}
+use Rattle.packet_record.specs.Says.{ShortBefore, EnterSays, TakeSays}
+use Rattle.packet_record.proofs.Moving.{MovedDown}
 
 -- The list f 0, f 1, .., f (n - 1): its length, that it goes by those values alone, and one value more.
 pub length-tabulate : {A : Type 0} (n : ℕ) (f : ℕ → A) → length (tabulate n f) ≡ n

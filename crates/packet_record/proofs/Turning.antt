@@ -1,6 +1,6 @@
--- A slot's turn of a record, in the parts in which the code takes it: what is asked for (`ask_none`, `ask_takes`), then
--- the packet coming in. One that is now whole has a place (`place_if_whole`), since the record after the slot keeps the
--- rules and the list with it is so no longer than 32. `turned` puts the parts together.
+-- A slot's turn of a record, in the parts in which the code takes it: what is asked for, then the packet coming in. One
+-- that is now whole has a place (`place_if_whole`), since the record after the slot keeps the rules and the list with it
+-- is so no longer than 32. `turned` puts the parts together.
 use mathlib.Core.Path.{◌≡◌, refl, ap, sym, ◌∙◌, subst, fun_ext}
 use mathlib.Core.Bool.{true, false}
 use mathlib.Core.List.{List, [], ◌∷◌}
@@ -14,80 +14,32 @@ use Rattle.model.specs.Lists.{asks}
 use Rattle.model.proofs.basics.Tests.{by_test, eqb_same, some_inj, none_not_some, true_not_false}
 use Rattle.packets.specs.Packets.{most_listed, Coming, coming, PacketRecord, PacketArrival, start, next}
 use Rattle.packets.specs.Packets.{PacketCall, packet_drops, packet_taken, grown, is_whole, entering, incoming_after}
-use Rattle.packets.specs.Packets.{left_after, record_after}
+use Rattle.packets.specs.Packets.{record_after}
 use Rattle.packets.proofs.Slots.{RecordKeeps, record-facts}
 use Rattle.packets.proofs.Kept.{CallFits, record-after-kept}
 use Rattle.packet_layout.specs.declared.PacketRegs.{PacketRegs}
-use Rattle.packet_layout.specs.Views.{list_in, incoming_of, record_in, ListsLong}
-use Rattle.packet_record.specs.Says.{TakeSays, TurnFacts, RequestFits}
-use Rattle.packet_record.specs.Says.{LeftAs, AskSays, NotWhole, ComesAs, PlaceIfWhole, WholeSays}
+use Rattle.packet_layout.specs.Views.{list_in, incoming_of, record_in}
+use Rattle.packet_record.specs.Says.{TurnFacts, RequestFits}
+use Rattle.packet_record.specs.Says.{AskSays, NotWhole, ComesAs, PlaceIfWhole, WholeSays}
 use Rattle.packet_record.specs.Says.{TurnSays}
 use Rattle.packet_record.proofs.Lists.{list_length}
 
--- A byte or byte request that was dropped is not counted.
-pub stays_coming : (r : PacketRecord) (call : PacketCall) (n : ℕ) → 0 < n → incoming_after r call n ≡ r.incoming
-stays_coming r call zero l = absurd (omega arith)
-stays_coming r call (suc n) l = refl
-
-pub left-kept : (r : PacketRecord) (n : ℕ) → (n ≡ 0 → ⊥) → left_after r none n ≡ r.left
-left-kept r zero d = absurd (d refl)
-left-kept r (suc n) d = refl
-
--- The lists are no part of either.
-left-alike : (r s : PacketRecord) (n : ℕ) → r.left ≡ s.left → left_after r none n ≡ left_after s none n
-left-alike r s zero e = ap (λ (n : ℕ). n - 1) e
-left-alike r s (suc n) e = e
-
+-- The lists are no part of the packet coming in.
 incoming_alike : (r s : PacketRecord) (call other : PacketCall) (n : ℕ) → r.incoming ≡ s.incoming
     → call.arrival ≡ other.arrival → incoming_after r call n ≡ incoming_after s other n
 incoming_alike r s call other zero e f = rw (e, f)
 incoming_alike r s call other (suc n) e f = e
 
--- What is asked for.
-module _ (regs : PacketRegs) (lengths listed : List ℕ) (number : ℕ) where
-  abbrev given : PacketRecord
-  given = record_in regs lengths listed
-
-  pub dropped : (request : Option ℕ) → packet_drops given request ≡ true → packet_taken given request ≡ none
-  dropped request e = rw e
-
-  pub ask_none : (request : Option ℕ) (regs' : PacketRegs) → ListsLong lengths listed
-      → packet_taken given request ≡ none → LeftAs (left_after (record_in regs [] []) none number) regs regs'
-      → AskSays given request number regs' lengths listed
-  ask_none request regs' long e left = record {
-    lists_long = long;
-    lists_are = λ p. rw e;
-    incoming_same = left.incoming_same;
-    asked_is = left.asked_same ∙ rw e;
-    left_is = left.left_is ∙ left-alike (record_in regs [] []) given number refl
-        ∙ ap (λ (o : Option ℕ). left_after given o number) (sym e);
-  }
-
-  module _ (q : ℕ) (not-dropped : packet_drops given (some q) ≡ false) where
-    -- Nothing is left of an earlier packet, and the list has one.
-    pub one_listed : 1 ≤ get_or listed q 0
-    one_listed =
-        by_test (ltb 0 regs.left)
-        (λ t. absurd (true_not_false true refl (rw t at not-dropped)))
-        (λ t. let e : eqb (length (list_in lengths listed q)) 0 ≡ false = rw t at not-dropped in
-        let d = eqb-false (length (list_in lengths listed q)) 0 e in
-        let same = list_length lengths listed q in
-        omega (arith, d, same))
-
-    pub ask_takes : (size : ℕ) (regs' : PacketRegs) (lengths' listed' : List ℕ)
-        → TakeSays q lengths listed size lengths' listed'
-        → incoming_of regs' ≡ incoming_of regs → regs'.asked ≡ q → regs'.left ≡ size
-        → AskSays given (some q) number regs' lengths' listed'
-    ask_takes size regs' lengths' listed' took same asked left = record {
-      lists_long = took.lists_long;
-      lists_are = λ p. rw is_taken (took.lists_are p);
-      incoming_same = same;
-      asked_is = rw is_taken asked;
-      left_is = rw is_taken (left ∙ took.oldest_is);
-    }
-      where
-        is_taken : packet_taken given (some q) ≡ some q
-        is_taken = rw not-dropped
+-- A packet request that is not dropped: nothing is left of an earlier packet, and the list has one.
+pub one_listed : (regs : PacketRegs) (lengths listed : List ℕ) (q : ℕ)
+    → packet_drops (record_in regs lengths listed) (some q) ≡ false → 1 ≤ get_or listed q 0
+one_listed regs lengths listed q not-dropped =
+    by_test (ltb 0 regs.left)
+    (λ t. absurd (true_not_false true refl (rw t at not-dropped)))
+    (λ t. let e : eqb (length (list_in lengths listed q)) 0 ≡ false = rw t at not-dropped in
+    let d = eqb-false (length (list_in lengths listed q)) 0 e in
+    let same = list_length lengths listed q in
+    omega (arith, d, same))
 
 -- The facts of a slot, as the record's own laws take them.
 module _ (r : PacketRecord) (call : PacketCall) (facts : TurnFacts r call) where

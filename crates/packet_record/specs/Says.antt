@@ -1,7 +1,7 @@
 -- What the operations on the packet layer's record promise: each says what the lists and the registers then hold by the
 -- model's own definitions (document 02, 2.7). `lengths` and `listed` are the arrays as the function found them,
 -- `lengths'` and `listed'` as it left them.
-use Rattle.std.specs.Prelude.{◌≡◌, true, false, List, [], ◌∷◌, ◌++◌, ℕ, ◌+◌, ◌≤◌, ◌<◌, eqb, length, drop, get_or}
+use Rattle.std.specs.Prelude.{◌≡◌, true, false, List, [], ◌∷◌, ◌++◌, ℕ, ◌≤◌, ◌<◌, eqb, drop, get_or}
 use Rattle.std.proofs.Math.Option.{Option, some, none}
 use Rattle.model.specs.Basics.{choose}
 use Rattle.model.specs.Lists.{asks}
@@ -20,13 +20,6 @@ ShortBefore q listed = (p : ℕ) → p < q → get_or listed p 0 ≤ most_listed
 pub record EnterSays (q size : ℕ) (lengths listed lengths' listed' : List ℕ) : Type 0 where
   pub lists_long : ListsLong lengths' listed'
   pub lists_are : (p : ℕ) → list_in lengths' listed' p ≡ list_in lengths listed p ++ choose (eqb q p) (size ∷ []) []
-
--- The places after `first`, up to `count`, have moved down by one, and no others have changed.
-pub record MovedDown (first count : ℕ) (lengths lengths' : List ℕ) : Type 0 where
-  pub same_length : length lengths' ≡ length lengths
-  pub moved : (i : ℕ) → i + 1 < count → get_or lengths' (first + i) 0 ≡ get_or lengths (first + (i + 1)) 0
-  pub before_same : (k : ℕ) → k < first → get_or lengths' k 0 ≡ get_or lengths k 0
-  pub behind_same : (k : ℕ) → first + count ≤ k → get_or lengths' k 0 ≡ get_or lengths k 0
 
 -- The oldest length has left the list of queue q.
 pub record TakeSays (q : ℕ) (lengths listed : List ℕ) (oldest : ℕ) (lengths' listed' : List ℕ) : Type 0 where
@@ -77,6 +70,10 @@ pub record AskSays (r : PacketRecord) (request : Option ℕ) (number : ℕ) (reg
 -- The packet coming in is not whole.
 abbrev pub NotWhole : Option Coming → Type 0
 NotWhole incoming = (c : Coming) → incoming ≡ some c → c.bytes_in < c.size
+
+-- A call that asks for no packet.
+abbrev pub arriving : Option PacketArrival → PacketCall
+arriving arrival = record { arrival = arrival; request = none }
 
 -- The packet coming in is now `incoming`, and the packet asked for is as it was.
 pub record ComesAs (incoming : Option Coming) (regs regs' : PacketRegs) : Type 0 where

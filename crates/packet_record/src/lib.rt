@@ -4,18 +4,21 @@
 
 ghost use Rattle.std.specs.Prelude.{◌≡◌, true, List, [], ℕ, ◌+◌, ◌≤◌, ◌<◌, length, get_or};
 ghost use Rattle.std.proofs.Math.Option.{none};
-ghost use Rattle.model.specs.Basics.{all_of, all_below, tabulate};
+ghost use Rattle.model.specs.Basics.{choose, all_of, all_below, tabulate};
+ghost use Rattle.layout.specs.Calls.{arrival_number_in, request_number_in};
 ghost use Rattle.layout.specs.Lengths.{queue_places};
 ghost use Rattle.packets.specs.Packets.{most_listed, length_ok, coming_to, list_ok, coming_ok, record_keeps};
 ghost use Rattle.packets.specs.Packets.{packet_drops, incoming_after, left_after, record_after};
 ghost use Rattle.packet_layout.specs.Lengths.{length_places};
-ghost use Rattle.packet_layout.specs.Views.{request_of, call_of, incoming_of, record_in, ListsLong};
-ghost use Rattle.packet_record.specs.Says.{ShortBefore, EnterSays, MovedDown, TakeSays, RequestBelow, TurnFacts};
-ghost use Rattle.packet_record.specs.Says.{RequestFits, LeftAs, AskSays, NotWhole, ComesAs, PlaceIfWhole};
+ghost use Rattle.packet_layout.specs.Views.{arrival_of, request_of, call_of, incoming_of, record_in, ListsLong};
+ghost use Rattle.packet_record.specs.Says.{ShortBefore, EnterSays, TakeSays, RequestBelow, TurnFacts};
+ghost use Rattle.packet_record.specs.Says.{RequestFits, LeftAs, AskSays, arriving, NotWhole, ComesAs, PlaceIfWhole};
 ghost use Rattle.packet_record.specs.Says.{WholeSays, TurnSays};
 
+use layout::Outcome;
 use packet_layout::{
-    LONGEST_PACKET, LengthArray, ListedArray, MOST_LISTED, PacketArrival, PacketRegs, PacketRequest,
+    Coming, LONGEST_PACKET, LengthArray, ListedArray, MOST_LISTED, PacketByte, PacketCall,
+    PacketRegs,
 };
 
 // A length enters the list of queue q, as its newest.
@@ -30,18 +33,6 @@ pub fn enter(lengths: &mut LengthArray, listed: &mut ListedArray, q: usize, size
     listed[q] = count + 1;
 }
 
-// The places after `first`, up to `count`, move down by one.
-fn move_down(lengths: &mut LengthArray, first: usize, count: usize)
-    requires { (length lengths.old ≡ length_places) × (first + count ≤ length_places) }
-    ensures { MovedDown first count lengths.old lengths.new }
-{
-    let mut i: usize = 0;
-    while i + 1 < count {
-        lengths[first + i] = lengths[first + (i + 1)];
-        i += 1;
-    }
-}
-
 // The oldest length leaves the list of queue q, and is returned.
 pub fn take_oldest(lengths: &mut LengthArray, listed: &mut ListedArray, q: usize) -> u16
     requires { ListsLong lengths.old listed.old × (q < queue_places) × ShortBefore q listed.old
@@ -52,164 +43,104 @@ pub fn take_oldest(lengths: &mut LengthArray, listed: &mut ListedArray, q: usize
     let first = q * MOST_LISTED;
     let count = listed[q];
     let oldest = lengths[first];
-    move_down(lengths, first, count as usize);
+    lengths.copy_within(first + 1..first + count as usize, first);
     listed[q] = count - 1;
     oldest
 }
 
+// Whether a length is in the range.
+fn length_ok(size: u16) -> bool
+    ensures { result ≡ length_ok size }
+{
+    (1..=LONGEST_PACKET).contains(&size)
+}
+
 // Whether `count` lengths from `first` on are all in the range.
 fn lengths_keep(lengths: &LengthArray, first: usize, count: usize) -> bool
-    requires { (length lengths.now ≡ length_places) × (first + count ≤ length_places) }
+    requires { first + count ≤ length_places }
     ensures { result ≡ all_of length_ok (tabulate count (λ i. get_or lengths.now (first + i) 0)) }
 {
-    let mut i: usize = 0;
-    while i < count {
-        let size = lengths[first + i];
-        if size < 1 {
-            return false;
-        }
-        if LONGEST_PACKET < size {
-            return false;
-        }
-        i += 1;
-    }
-    true
+    lengths[first..first + count]
+        .iter()
+        .all(|&size| length_ok(size))
 }
 
 // How many packets come in to queue q.
 fn coming_to(regs: PacketRegs, q: usize) -> usize
     ensures { result ≡ coming_to q (incoming_of regs) }
 {
-    if regs.comes {
-        if (regs.queue as usize) == q {
-            return 1;
-        }
-        return 0;
+    match regs.coming {
+        Some(packet) if packet.queue as usize == q => 1,
+        _ => 0,
     }
-    0
-}
-
-// A count of 8 bits, as wide as what it is added to.
-fn wide(count: u8) -> usize
-    ensures { (result ≡ count) × (result < 256) }
-{
-    count as usize
 }
 
 // Whether the list of one queue keeps the rules: it is short enough, counted with a packet that comes in to it, and its
 // lengths are in the range. A list that is too long is not read.
-fn list_keeps<'a>(
-    regs: PacketRegs,
-    lengths: &'a LengthArray,
-    listed: &'a ListedArray,
-    q: usize,
-) -> bool
+fn list_keeps(regs: PacketRegs, lengths: &LengthArray, listed: &ListedArray, q: usize) -> bool
     requires { ListsLong lengths.now listed.now × (q < queue_places) }
     ensures { result ≡ list_ok (record_in regs lengths.now listed.now) q }
 {
-    let count = wide(listed[q]);
-    if MOST_LISTED < count + coming_to(regs, q) {
-        return false;
-    }
-    lengths_keep(lengths, q * MOST_LISTED, count)
+    let count = listed[q] as usize;
+    count + coming_to(regs, q) <= MOST_LISTED && lengths_keep(lengths, q * MOST_LISTED, count)
 }
 
 // Whether the list of each queue does.
-fn lists_keep<'a>(
-    regs: PacketRegs,
-    lengths: &'a LengthArray,
-    listed: &'a ListedArray,
-    queues: usize,
-) -> bool
+fn lists_keep(regs: PacketRegs, lengths: &LengthArray, listed: &ListedArray, queues: usize) -> bool
     requires { ListsLong lengths.now listed.now × (queues ≤ queue_places) }
     ensures { result ≡ all_below queues (list_ok (record_in regs lengths.now listed.now)) }
 {
-    let mut q: usize = 0;
-    while q < queues {
-        if list_keeps(regs, lengths, listed, q) {
-            q += 1;
-        } else {
-            return false;
-        }
-    }
-    true
+    (0..queues).all(|q| list_keeps(regs, lengths, listed, q))
 }
 
 // Whether the packet coming in keeps the rules.
 fn coming_keeps(regs: PacketRegs, queues: usize) -> bool
     ensures { result ≡ coming_ok queues (incoming_of regs) }
 {
-    if regs.comes {
-        if queues <= (regs.queue as usize) {
-            return false;
-        }
-        if regs.size < 1 {
-            return false;
-        }
-        if LONGEST_PACKET < regs.size {
-            return false;
-        }
-        return regs.bytes_in < regs.size;
-    }
-    true
+    regs.coming.is_none_or(|packet| {
+        (packet.queue as usize) < queues && length_ok(packet.size) && packet.bytes_in < packet.size
+    })
 }
 
 // Whether a record keeps the rules, judged on any numbers and any arrays.
-pub fn record_keeps<'a>(
+pub fn record_keeps(
     regs: PacketRegs,
-    lengths: &'a LengthArray,
-    listed: &'a ListedArray,
+    lengths: &LengthArray,
+    listed: &ListedArray,
     queues: usize,
 ) -> bool
     requires { ListsLong lengths.now listed.now × (queues ≤ queue_places) }
     ensures { result ≡ record_keeps queues (record_in regs lengths.now listed.now) }
 {
-    if queues <= (regs.asked as usize) {
-        return false;
-    }
-    if LONGEST_PACKET < regs.left {
-        return false;
-    }
-    if coming_keeps(regs, queues) {
-        return lists_keep(regs, lengths, listed, queues);
-    }
-    false
+    (regs.asked as usize) < queues
+        && regs.left <= LONGEST_PACKET
+        && coming_keeps(regs, queues)
+        && lists_keep(regs, lengths, listed, queues)
 }
 
 // Whether a packet request is dropped: byte requests of an earlier one are left, or no whole packet is listed.
-pub fn drops(regs: PacketRegs, listed: &ListedArray, request: PacketRequest) -> bool
-    requires { (length listed.now ≡ queue_places) × RequestBelow queue_places (request_of request) }
+pub fn drops(regs: PacketRegs, listed: &ListedArray, request: Option<u16>) -> bool
+    requires { RequestBelow queue_places (request_of request) }
     ensures { (lengths : List ℕ)
         → result ≡ packet_drops (record_in regs lengths listed.now) (request_of request) }
 {
     match request {
-        PacketRequest::AsksPacket(queue) => {
-            if 0 < regs.left {
-                return true;
-            }
-            listed[queue as usize] == 0
-        }
-        PacketRequest::NoPacketRequest => false,
+        Some(queue) => 0 < regs.left || listed[queue as usize] == 0,
+        None => false,
     }
 }
 
 // A byte request that was not dropped is one less that is left, if any was.
-fn one_asked(regs: PacketRegs, request_number: u8) -> PacketRegs
-    ensures { LeftAs (left_after (record_in regs [] []) none request_number) regs result }
+fn one_asked(regs: PacketRegs, request_dropped: bool) -> PacketRegs
+    ensures { LeftAs (left_after (record_in regs [] []) none (choose request_dropped 7 0)) regs result }
 {
-    if request_number == 0 {
-        if 0 < regs.left {
-            return PacketRegs {
-                comes: regs.comes,
-                queue: regs.queue,
-                size: regs.size,
-                bytes_in: regs.bytes_in,
-                asked: regs.asked,
-                left: regs.left - 1,
-            };
-        }
+    if request_dropped {
+        return regs;
     }
-    regs
+    PacketRegs {
+        left: regs.left.saturating_sub(1),
+        ..regs
+    }
 }
 
 // The packet request is dropped, or takes the oldest length out of its list and has so many byte requests left.
@@ -217,65 +148,48 @@ fn ask(
     regs: PacketRegs,
     lengths: &mut LengthArray,
     listed: &mut ListedArray,
-    request: PacketRequest,
-    request_number: u8,
+    request: Option<u16>,
+    request_dropped: bool,
 ) -> PacketRegs
     requires { ListsLong lengths.old listed.old × RequestFits listed.old (request_of request) }
     ensures { AskSays (record_in regs lengths.old listed.old) (request_of request)
-        request_number result lengths.new listed.new }
+        (choose request_dropped 7 0) result lengths.new listed.new }
 {
-    if drops(regs, listed, request) {
-        return one_asked(regs, request_number);
-    }
     match request {
-        PacketRequest::AsksPacket(queue) => {
-            let size = take_oldest(lengths, listed, queue as usize);
+        Some(queue) if !drops(regs, listed, request) => {
+            let left = take_oldest(lengths, listed, queue as usize);
             PacketRegs {
-                comes: regs.comes,
-                queue: regs.queue,
-                size: regs.size,
-                bytes_in: regs.bytes_in,
                 asked: queue,
-                left: size,
+                left,
+                ..regs
             }
         }
-        PacketRequest::NoPacketRequest => one_asked(regs, request_number),
+        _ => one_asked(regs, request_dropped),
     }
 }
 
 // The packet coming in with this slot's byte, if it was not dropped.
-fn grow(regs: PacketRegs, arrival: PacketArrival, arrival_number: u8) -> PacketRegs
+fn grow(regs: PacketRegs, arrival: Option<PacketByte>, arrival_dropped: bool) -> PacketRegs
     requires { NotWhole (incoming_of regs) }
-    ensures { ComesAs
-        (incoming_after (record_in regs [] []) (call_of arrival PacketRequest.NoPacketRequest) arrival_number) regs result }
+    ensures { ComesAs (incoming_after (record_in regs [] []) (arriving (arrival_of arrival))
+        (choose arrival_dropped 5 0)) regs result }
 {
-    if 0 < arrival_number {
+    if arrival_dropped {
         return regs;
     }
-    match arrival {
-        PacketArrival::Starts(queue, size, value) => PacketRegs {
-            comes: true,
-            queue: queue,
-            size: size,
+    let coming = match (arrival, regs.coming) {
+        (Some(PacketByte::Starts { queue, size, .. }), _) => Some(Coming {
+            queue,
+            size,
             bytes_in: 1,
-            asked: regs.asked,
-            left: regs.left,
-        },
-        PacketArrival::Continues(value) => {
-            if regs.comes {
-                return PacketRegs {
-                    comes: true,
-                    queue: regs.queue,
-                    size: regs.size,
-                    bytes_in: regs.bytes_in + 1,
-                    asked: regs.asked,
-                    left: regs.left,
-                };
-            }
-            regs
-        }
-        PacketArrival::NoByte => regs,
-    }
+        }),
+        (Some(PacketByte::Continues(_)), Some(packet)) => Some(Coming {
+            bytes_in: packet.bytes_in + 1,
+            ..packet
+        }),
+        _ => regs.coming,
+    };
+    PacketRegs { coming, ..regs }
 }
 
 // A packet that is whole comes in no more, and its length enters its list.
@@ -284,39 +198,33 @@ fn enter_whole(regs: PacketRegs, lengths: &mut LengthArray, listed: &mut ListedA
     ensures { WholeSays lengths.old listed.old regs result lengths.new
         listed.new }
 {
-    if regs.comes {
-        if regs.size <= regs.bytes_in {
-            enter(lengths, listed, regs.queue as usize, regs.size);
-            return PacketRegs {
-                comes: false,
-                queue: regs.queue,
-                size: regs.size,
-                bytes_in: regs.bytes_in,
-                asked: regs.asked,
-                left: regs.left,
-            };
+    match regs.coming {
+        Some(packet) if packet.size <= packet.bytes_in => {
+            enter(lengths, listed, packet.queue as usize, packet.size);
+            PacketRegs {
+                coming: None,
+                ..regs
+            }
         }
+        _ => regs,
     }
-    regs
 }
 
-// The record's part of an accepted slot, by the numbers of the buffer's halves: first the packet that is asked for is
-// taken out, and then a packet that is now whole enters.
+// The record's part of an accepted slot, by what the buffer's slot did: first the packet that is asked for is taken
+// out, and then a packet that is now whole enters.
 pub fn turn(
     regs: PacketRegs,
     lengths: &mut LengthArray,
     listed: &mut ListedArray,
-    arrival: PacketArrival,
-    request: PacketRequest,
-    arrival_number: u8,
-    request_number: u8,
+    call: PacketCall,
+    outcome: Outcome,
 ) -> PacketRegs
     requires { ListsLong lengths.old listed.old
-        × TurnFacts (record_in regs lengths.old listed.old) (call_of arrival request) }
-    ensures { TurnSays (record_after (record_in regs lengths.old listed.old)
-        (call_of arrival request) arrival_number request_number) result lengths.new listed.new }
+        × TurnFacts (record_in regs lengths.old listed.old) (call_of call) }
+    ensures { TurnSays (record_after (record_in regs lengths.old listed.old) (call_of call)
+        (arrival_number_in outcome) (request_number_in outcome)) result lengths.new listed.new }
 {
-    let asked = ask(regs, lengths, listed, request, request_number);
-    let grown = grow(asked, arrival, arrival_number);
+    let asked = ask(regs, lengths, listed, call.request, outcome.request_dropped);
+    let grown = grow(asked, call.arrival, outcome.arrival_dropped);
     enter_whole(grown, lengths, listed)
 }

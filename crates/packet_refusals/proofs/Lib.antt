@@ -1,3 +1,2 @@
--- The packet layer's refusals by what their tests found, and that they are the request's own.
-pub mod Judging
+-- That the packet layer's refusals by figures are the request's own.
 pub mod Paper

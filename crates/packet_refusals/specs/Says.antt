@@ -1,12 +1,13 @@
 -- The refusals that the packet layer judges before the buffer (4, 20, 21, 22 and 6) by figures: those of the state, how
 -- many lengths each list has, and the packet coming in. That they are the request's own is shown in proofs/Paper.antt.
-use Rattle.std.specs.Prelude.{Bool, true, false, [], ◌∷◌, ℕ, ◌+◌, ◌-◌, ◌*◌, ltb, leb}
+use Rattle.std.specs.Prelude.{Bool, true, false, [], ◌∷◌, ℕ, ◌+◌, ◌-◌, ◌*◌, ◌<◌, ltb, leb}
 use Rattle.std.proofs.Math.Option.{Option, some, none}
 use Rattle.model.specs.Basics.{choose, when, first_refusal}
 use Rattle.model.specs.Sizes.{Sizes}
 use Rattle.model.specs.State.{Byte}
 use Rattle.packets.specs.Packets.{most_listed, Coming, PacketArrival, start, next, byte_in, comes, length_wrong}
 use Rattle.layout.specs.Figures.{Figures}
+use Rattle.layout.specs.Lengths.{queue_places}
 
 -- 4: the byte's queue is Q or more; a start names its queue, a next byte is of the packet coming in.
 abbrev pub unknown_now : Sizes → Option Byte → Bool
@@ -15,6 +16,12 @@ unknown_now s (some y) = leb s.Q y.queue
 
 abbrev pub arrival_unknown_now : Sizes → Option Coming → Option PacketArrival → Bool
 arrival_unknown_now s c arrival = unknown_now s (byte_in c arrival)
+
+-- A start is of a queue that has a place in the arrays.
+abbrev pub StartIn : Option PacketArrival → Type 0
+StartIn none = Unit {0}
+StartIn (some (start q n v)) = q < queue_places
+StartIn (some (next v)) = Unit {0}
 
 -- 21: "at a start, the list holds 32 or another packet is still coming in".
 abbrev pub no_place_now : (ℕ → ℕ) → Option Coming → Option PacketArrival → Bool

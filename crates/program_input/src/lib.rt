@@ -1,43 +1,38 @@
 // What the programs read their input with, and how they tell what failed.
 #![tactic(auto)]
 
-ghost use Rattle.std.specs.Prelude.{◌≡◌, true, IsSome};
+ghost use Rattle.std.specs.Prelude.{IfOk, IfErr};
 ghost use Rattle.io.specs.Counts.{IsPrefixLen};
 
 use std::io::{Eprint, Error, Read, Write};
 
-// How many bytes were read, and whether a read failed, with what it failed.
+// What a read failed with, and how many bytes were read before it.
 #[derive(Drop)]
-pub struct Input {
+pub struct Failure {
     pub length: usize,
-    pub failed: bool,
-    pub error: Option<Error>,
+    pub error: Error,
 }
 
-// Reads until the buffer is full or the input ends.
-pub fn read_all<R: Read>(reader: &mut R, buffer: &mut [u8]) -> Input
-    ensures within { IsPrefixLen result.length buffer.new }
-    ensures told { result.failed ≡ true → IsSome result.error }
+// Reads until the buffer is full or the input ends: how many bytes were read.
+pub fn read_all<R: Read>(reader: &mut R, buffer: &mut [u8]) -> Result<usize, Failure>
+    ensures within { IfOk result (λ length. IsPrefixLen length buffer.new) }
+    ensures failed { IfErr result (λ failure. IsPrefixLen failure.length buffer.new) }
 {
+    // A read takes as many bytes as it likes, so that no iterator steps so.
     let mut done: usize = 0;
     while done < buffer.len() {
         match reader.read(&mut buffer[done..]) {
             Ok(0) => break,
             Ok(more) => done += more,
             Err(error) => {
-                return Input {
+                return Err(Failure {
                     length: done,
-                    failed: true,
-                    error: Some(error),
-                };
+                    error,
+                });
             }
         }
     }
-    Input {
-        length: done,
-        failed: false,
-        error: None,
-    }
+    Ok(done)
 }
 
 // Writes a line to standard error: the program's name, what failed, and the system's words for it without their number.

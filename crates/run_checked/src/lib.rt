@@ -1,30 +1,22 @@
 // Many slots in one call on lent arrays, whatever the arrays and the store hold: 3 and 2 are judged once, since a slot
 // that is refused leaves all as it was, and the rest is in place. The counts by queue are lent too, and are left right.
+// The arrays are lent one by one: crates/layout says why.
 #![tactic(auto)]
 
-ghost use Rattle.std.specs.Prelude.{◌≡◌, ◌++◌, ◌≤◌, length, drop, replicate};
+ghost use Rattle.std.specs.Prelude.{◌≡◌};
+ghost use Rattle.layout.specs.Calls.{number_in};
 ghost use Rattle.layout.specs.Lent.{given, found, left, counts_found, counts_left};
 ghost use Rattle.layout.specs.Views.{Long, regs_in, state_in};
 ghost use Rattle.slot_checked.specs.Says.{judged_number, LeaveSays};
 ghost use Rattle.run_checked.specs.Says.{RunCheckedSays, IdleCheckedSays};
 
 use idle_in_place::Passed;
-use layout::{CellArray, CountArray, HeadArray, RegArray, Regs, RingArray, TailArray};
+use layout::{
+    CellArray, CountArray, HeadArray, Outcome, Refusal, RegArray, Regs, RingArray, TailArray,
+};
 
-// The first n answers are all one word.
-fn fill(answers: &mut [u64], n: usize, word: u64)
-    requires { n ≤ length answers.old }
-    ensures { answers.new ≡ replicate n word ++ drop n answers.old }
-{
-    let mut i: usize = 0;
-    while i < n {
-        answers[i] = word;
-        i += 1;
-    }
-}
-
-// Many slots, of any state and any store: as many calls as there are places for their answers. 0, or the number that
-// each of them answers.
+// Many slots, of any state and any store: as many calls as there are places for their answers. Where the state or the
+// store is refused, each of them answers that refusal.
 pub fn run(
     tail: &mut TailArray,
     head: &mut HeadArray,
@@ -38,21 +30,21 @@ pub fn run(
     calls: &[u64],
     answers: &mut [u64],
     store: &mut [u8],
-) -> u8
+) -> Result<(), Refusal>
     requires { Long (given tail head cells firsts stored) }
     ensures { RunCheckedSays (state_in (regs_in regs.old) (found tail head cells firsts stored))
         calls.now answers.old store.old
         (state_in (regs_in regs.new) (left tail head cells firsts stored))
         answers.new store.new
-        × (result ≡ judged_number (regs_in regs.old) (found tail head cells firsts stored) store.old)
+        × (number_in result ≡ judged_number (regs_in regs.old) (found tail head cells firsts stored) store.old)
         × LeaveSays (regs_in regs.old) (found tail head cells firsts stored)
         (counts_found tails heads owing) store.old
         (regs_in regs.new) (left tail head cells firsts stored)
         (counts_left tails heads owing) store.new }
 {
-    let n = minmax::smaller(calls.len(), answers.len());
+    let n = calls.len().min(answers.len());
     let before = layout::regs_in(regs);
-    let number = slot_checked::judge_state(
+    let judged = slot_checked::judge_state(
         tail,
         head,
         cells,
@@ -64,13 +56,12 @@ pub fn run(
         before,
         store.len(),
     );
-    if number != 0 {
-        let refused = layout::number_alone(number);
-        let word = run_words::answer_word(refused);
-        fill(answers, n, word);
-        return number;
+    if let Err(refusal) = judged {
+        answers[..n].fill(run_words::answer_word(Err(refusal)));
+        return Err(refusal);
     }
-    run_in_place::run_calls(
+    // What the last slot told stands in its answer.
+    let _ = run_in_place::run_calls(
         tail,
         tails,
         head,
@@ -84,7 +75,7 @@ pub fn run(
         answers,
         store,
     );
-    0
+    Ok(())
 }
 
 // One stretch of at most n idle slots, of any state and any store. Where the state breaks the rules or the store is too
@@ -108,7 +99,7 @@ pub fn idle(
         × LeaveSays regs (found tail head cells firsts stored) (counts_found tails heads owing) store.old
         result.regs (left tail head cells firsts stored) (counts_left tails heads owing) store.new }
 {
-    let number = slot_checked::judge_state(
+    let judged = slot_checked::judge_state(
         tail,
         head,
         cells,
@@ -121,19 +112,17 @@ pub fn idle(
         store.len(),
     );
     if n == 0 {
-        let none = layout::number_alone(0);
         return Passed {
-            regs: regs,
+            regs,
             passed: 0,
-            reply: none,
+            reply: Ok(Outcome::default()),
         };
     }
-    if number != 0 {
-        let refused = layout::number_alone(number);
+    if let Err(refusal) = judged {
         return Passed {
-            regs: regs,
+            regs,
             passed: 1,
-            reply: refused,
+            reply: Err(refusal),
         };
     }
     idle_in_place::pass(

@@ -2,6 +2,7 @@
 -- it was, and state and store are as those calls leave them. One call more is one slot more.
 use mathlib.Core.Path.{◌≡◌, refl, ap, sym, ◌∙◌, subst}
 use mathlib.Core.List.{List, [], ◌∷◌, ◌++◌, map, map-append}
+use Rattle.std.specs.Prelude.{Result}
 use Prim.Native.Nat.{ℕ, ◌+◌, ◌<◌, ◌≤◌}
 use native.Mathlib.Omega.{arith}
 use native.Mathlib.Numerals.{add-one}
@@ -15,15 +16,14 @@ use Rattle.model.proofs.one_slot.Rules.{keeps-facts}
 use Rattle.model.proofs.one_slot.Kept.{slot_kept}
 use Rattle.model.proofs.one_slot.Lists.{last_append, last_store_append, run-append, run_length}
 use Rattle.layout.specs.Counts.{ByQueue}
-use Rattle.layout.specs.Calls.{arrival_in, request_in, call_in, reply_in}
+use Rattle.layout.specs.Calls.{reply_in}
 use Rattle.layout.specs.declared.Regs.{Regs}
-use Rattle.layout.specs.declared.Reply.{Reply}
-use Rattle.layout.specs.declared.Arrival.{Arrival}
-use Rattle.layout.specs.declared.Request.{Request}
+use Rattle.layout.specs.declared.Outcome.{Outcome}
+use Rattle.layout.specs.declared.Refusal.{Refusal}
 use Rattle.layout.specs.Views.{Arrays, state_in}
 use Rattle.slot_in_place.specs.Says.{Ready, answer_in, AdvanceSays, AsGiven}
-use Rattle.run_words.specs.Words.{answer_slots, call_of, answer_word, near_byte, near_queue}
-use Rattle.run_words.proofs.Nearest.{read_slot}
+use Rattle.run_words.specs.Words.{answer_slots, call_of, answer_word, near_call}
+use Rattle.run_words.proofs.Nearest.{near_slot}
 use Rattle.run_words.proofs.SlotsLeft.{slots_left_fit}
 use Rattle.slot_in_place.specs.declared.Advanced.{Advanced}
 use Rattle.run_in_place.specs.declared.Called.{Called}
@@ -33,7 +33,7 @@ use Rattle.run_in_place.specs.Says.{OneCallSays, RunInPlaceSays}
 -- What a slot in place tells fits a word.
 pub word_fits : {x : State} {store : List ℕ} {call : Call} {r : Advanced} {m : Arrays} {counts : ByQueue}
     {store' : List ℕ}
-    → AdvanceSays x store call r m counts store' → r.reply.slots_left < answer_slots
+    → AdvanceSays x store call r m counts store' → (reply_in r.reply).slots_left < answer_slots
 word_fits {x} {store} {call} says =
     omega (arith, ap (λ (a : Answer). a.reply.slots_left) says.answer-is, slots_left_fit x store call)
 
@@ -141,19 +141,18 @@ call_at calls i = get_or-map call_of calls i 0
 
 -- A slot whose call and answer are numbers is the slot: the code's values have the nearest queues, which a slot answers
 -- alike.
-pub called : {x : State} {store : List ℕ} (call : Call) (arrival : Arrival) (request : Request) {m : Arrays}
-    {counts : ByQueue} {store' : List ℕ} (r : Called)
-    → AdvanceSays x store (call_in arrival request) (advanced_in r) m counts store'
-    → arrival_in arrival ≡ near_byte call.arrival → request_in request ≡ near_queue call.request
+pub called : {x : State} {store : List ℕ} (call : Call) {read : Call} {m : Arrays} {counts : ByQueue}
+    {store' : List ℕ} (r : Called)
+    → AdvanceSays x store read (advanced_in r) m counts store' → read ≡ near_call call
     → r.word ≡ answer_word (reply_in r.reply)
     → CalledSays x store call r m counts store'
-called {x} {store} call arrival request {m} {counts} {store'} r s ea er ew = record {
+called {x} {store} call {read} {m} {counts} {store'} r s e ew = record {
   slot_is = record { answer-is = answer; ready = s.ready };
   word_is = ew ∙ ap (λ (b : Answer). answer_word b.reply) answer;
 }
   where
     answer : answer_in (advanced_in r) m store' ≡ slot paper x store call
-    answer = s.answer-is ∙ read_slot x store call ea er
+    answer = s.answer-is ∙ ap (slot paper x store) e ∙ near_slot x store call
 
 -- The first slot of a run, as long as no other has come: before it all is as it was given, behind it is the slot.
 pub record FirstTo (i : ℕ) (regs : Regs) (m : Arrays) (store : List ℕ) (first-call : Call) (r : Advanced) (m' : Arrays)
@@ -199,7 +198,7 @@ lent-ready put {m} {counts} {store} ready = subst (λ (n : Regs). Ready n m coun
 
 -- A run of one call leaves its registers in their array.
 pub call_put : {regs : Regs} {m : Arrays} {store : List ℕ} {calls : List Call} {last lent : Regs} → lent ≡ last
-    → (r : Reply) {m' : Arrays} {counts : ByQueue} {store' : List ℕ}
+    → (r : Result Outcome Refusal) {m' : Arrays} {counts : ByQueue} {store' : List ℕ}
     → OneCallSays regs m store calls (advanced_to last r) m' counts store'
     → OneCallSays regs m store calls (advanced_to lent r) m' counts store'
 call_put {regs} {m} {store} {calls} put r {m'} {counts} {store'} one =
@@ -208,7 +207,7 @@ call_put {regs} {m} {store} {calls} put r {m'} {counts} {store'} one =
 -- A caller that holds the registers by value lends an array of them, and reads them there behind the run. A run of one
 -- word is then the slot of the call that the word stands for.
 pub ran_call : {lent regs lent' regs' : Regs} → lent ≡ regs → regs' ≡ lent' → {m : Arrays} {store : List ℕ} (word : ℕ)
-    {call : Call} (r : Reply) {m' : Arrays} {counts : ByQueue} {store' : List ℕ} → call_of word ≡ call
+    {call : Call} (r : Result Outcome Refusal) {m' : Arrays} {counts : ByQueue} {store' : List ℕ} → call_of word ≡ call
     → OneCallSays lent m store (call_of word ∷ []) (advanced_to lent' r) m' counts store'
     → AdvanceSays (state_in regs m) store call (advanced_to regs' r) m' counts store'
 ran_call {lent} {regs} {lent'} put read {m} {store} word {call} r {m'} {counts} {store'} is_call one =

@@ -1,12 +1,13 @@
 -- What a run of many slots promises: the model's own list, with an answer for each of its slots.
-use Rattle.std.specs.Prelude.{◌≡◌, List, [], ◌∷◌, ◌++◌, map, ℕ, length, drop}
+use Rattle.std.specs.Prelude.{◌≡◌, List, [], ◌∷◌, ◌++◌, map, ℕ, length, drop, Result}
 use Rattle.model.specs.Sizes.{paper}
 use Rattle.model.specs.State.{State}
 use Rattle.model.specs.Slot.{Call, slot}
 use Rattle.model.specs.Lists.{Step, run, last_state, last_store}
 use Rattle.layout.specs.Counts.{ByQueue}
 use Rattle.layout.specs.declared.Regs.{Regs}
-use Rattle.layout.specs.declared.Reply.{Reply}
+use Rattle.layout.specs.declared.Outcome.{Outcome}
+use Rattle.layout.specs.declared.Refusal.{Refusal}
 use Rattle.layout.specs.Views.{Arrays, state_in}
 use Rattle.slot_in_place.specs.declared.Advanced.{Advanced}
 use Rattle.slot_in_place.specs.Says.{AdvanceSays, AsGiven}
@@ -28,7 +29,7 @@ pub record CalledSays (x : State) (store : List ℕ) (call : Call) (r : Called) 
   pub word_is : r.word ≡ answer_word (slot paper x store call).reply
 
 -- What a run hands back of its last slot, with the registers that it leaves.
-abbrev pub advanced_to : Regs → Reply → Advanced
+abbrev pub advanced_to : Regs → Result Outcome Refusal → Advanced
 advanced_to regs r = record { regs = regs; reply = r }
 
 -- A run of one call is the slot in place: on a refusal the registers and the arrays are as they came.

@@ -1,5 +1,5 @@
 // Many slots in one call, in place: no copy of the state per slot, the calls in a lent slice, an answer for each in
-// another.
+// another. The arrays are lent one by one: crates/layout says why.
 #![tactic(auto)]
 
 ghost use Rattle.std.specs.Prelude.{map, ◌≤◌, length};
@@ -9,10 +9,12 @@ ghost use Rattle.slot_in_place.specs.Says.{Ready, AsGiven};
 ghost use Rattle.run_words.specs.Words.{call_of};
 ghost use Rattle.run_in_place.specs.Says.{advanced_in, advanced_to, CalledSays, RunInPlaceSays, OneCallSays};
 
-use layout::{CellArray, CountArray, HeadArray, RegArray, Regs, Reply, RingArray, TailArray};
+use layout::{
+    CellArray, CountArray, HeadArray, Outcome, RegArray, Regs, Reply, RingArray, TailArray,
+};
 
 // Where a slot of a run leaves the registers, what it tells, and that as one number.
-#[derive(Drop)]
+#[derive(Clone, Copy)]
 pub struct Called {
     pub regs: Regs,
     pub reply: Reply,
@@ -42,18 +44,14 @@ pub fn answer_call(
         (counts_left tails heads owing) store.new
         × AsGiven regs (found tail head cells firsts stored) (advanced_in result) (left tail head cells firsts stored) }
 {
-    let arrival = run_words::arrival_in(call);
-    let request = run_words::request_in(call);
-    let a = slot_in_place::advance(
-        tail, head, cells, firsts, stored, tails, heads, owing, regs, arrival, request, store,
+    let call = run_words::call_in(call);
+    let advanced = slot_in_place::advance(
+        tail, head, cells, firsts, stored, tails, heads, owing, regs, call, store,
     );
-    let next = a.regs;
-    let reply = a.reply;
-    let word = run_words::answer_word(reply);
     Called {
-        regs: next,
-        reply: reply,
-        word: word,
+        regs: advanced.regs,
+        reply: advanced.reply,
+        word: run_words::answer_word(advanced.reply),
     }
 }
 
@@ -90,23 +88,17 @@ pub fn run_calls(
         (map call_of calls.now) (advanced_to (regs_in regs.new) result)
         (left tail head cells firsts stored) (counts_left tails heads owing) store.new }
 {
-    let before = layout::regs_in(regs);
-    let none = layout::number_alone(0);
     let mut last = Called {
-        regs: before,
-        reply: none,
+        regs: layout::regs_in(regs),
+        reply: Ok(Outcome::default()),
         word: 0,
     };
-    let mut i: usize = 0;
-    while i < calls.len() {
-        let next = last.regs;
+    for (i, &call) in calls.iter().enumerate() {
         last = answer_call(
-            tail, head, cells, firsts, stored, tails, heads, owing, next, calls[i], store,
+            tail, head, cells, firsts, stored, tails, heads, owing, last.regs, call, store,
         );
         answers[i] = last.word;
-        i += 1;
     }
-    let end = last.regs;
-    layout::put_regs(regs, end);
+    layout::put_regs(regs, last.regs);
     last.reply
 }

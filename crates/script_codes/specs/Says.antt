@@ -1,16 +1,17 @@
 -- What the pieces of reading and writing promise, by the definitions of commands and scripts.
-use Rattle.std.specs.Prelude.{◌≡◌, Bool, List, ◌++◌, ℕ, ◌+◌, ◌≤◌, length, take, drop}
+use Rattle.std.specs.Prelude as rust
+use Rattle.std.specs.Prelude.{◌≡◌, Some, None, Bool, List, ◌++◌, ℕ, ◌+◌, ◌≤◌, length, take, drop}
 use Rattle.std.proofs.Math.Option.{Option, some, none}
 use Rattle.script_commands.specs.declared.Command as enum
 use Rattle.script_commands.specs.Commands.{Kind, OperandsFit, command, row, kind_of, widths, operands_in}
 use Rattle.script_commands.specs.Scripts.{out_of_place, command_bytes}
 use Rattle.script_commands.specs.Values.{command_in}
-use Rattle.script_codes.specs.declared.Coded.{Coded}
+use Rattle.script_codes.specs.declared.coded.Coded.{Coded}
 
--- How many bytes a command has, its code counted; 0 for an unknown code.
-abbrev pub length_of : Option Kind → ℕ
-length_of none = 0
-length_of (some k) = 1 + widths (row k).operands
+-- How many bytes a command has, its code counted; none for an unknown code.
+abbrev pub length_of : Option Kind → rust.Option ℕ
+length_of none = None
+length_of (some k) = Some (1 + widths (row k).operands)
 
 -- Whether a command of this code, where it is a known one, is out of place.
 pub record PlaceSays (code : ℕ) (first : Bool) (r : Bool) : Type 0 where

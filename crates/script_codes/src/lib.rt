@@ -1,11 +1,14 @@
 // One command and its bytes, piece by piece: how many they are by the code, whether its place is right, its operands.
 #![tactic(auto)]
 
-ghost use Rattle.std.specs.Prelude.{◌≡◌, ◌+◌, ◌*◌, ◌≤◌, length};
+ghost use Rattle.std.specs.Prelude.{◌≡◌};
 ghost use Rattle.script_commands.specs.Commands.{kind_of, is_end};
 ghost use Rattle.script_commands.specs.Values.{command_in};
-ghost use Rattle.script_codes.specs.Says.{length_of, PlaceSays, Enough, CommandSays, CodedSays, put_over};
+ghost use Rattle.script_codes.specs.Says.{length_of, PlaceSays, Enough, CommandSays, CodedSays};
 
+mod coded;
+
+pub use coded::Coded;
 use script_commands::Command;
 
 // The codes of the commands.
@@ -23,19 +26,16 @@ const IDLES: u8 = 0x04;
 
 const END: u8 = 0x05;
 
-// How many bytes a command of this code has, the code counted; 0 for an unknown code.
-pub fn command_length(code: u8) -> usize
+// How many bytes a command of this code has, the code counted; none for an unknown code.
+pub fn command_length(code: u8) -> Option<usize>
     ensures { result ≡ length_of (kind_of code) }
 {
     match code {
-        SIZES => 4,
-        IDLE => 1,
-        ARRIVE => 3,
-        ASK => 2,
-        BOTH => 4,
-        IDLES => 3,
-        END => 1,
-        _ => 0,
+        IDLE | END => Some(1),
+        ASK => Some(2),
+        ARRIVE | IDLES => Some(3),
+        SIZES | BOTH => Some(4),
+        _ => None,
     }
 }
 
@@ -43,17 +43,7 @@ pub fn command_length(code: u8) -> usize
 pub fn out_of_place(code: u8, first: bool) -> bool
     ensures { PlaceSays code first result }
 {
-    if first {
-        return code != SIZES;
-    }
-    code == SIZES
-}
-
-// The number that two bytes hold, low byte first.
-fn count_of(low: u8, high: u8) -> u16
-    ensures { result ≡ low + 256 * high }
-{
-    (low as u16) + 256 * (high as u16)
+    first != (code == SIZES)
 }
 
 // The command of a known code, with its operands: the end is the code that is left.
@@ -67,7 +57,7 @@ pub fn command_of(code: u8, operands: &[u8]) -> Command
         ARRIVE => Command::Arrive(operands[0], operands[1]),
         ASK => Command::Ask(operands[0]),
         BOTH => Command::Both(operands[0], operands[1], operands[2]),
-        IDLES => Command::Idles(count_of(operands[0], operands[1])),
+        IDLES => Command::Idles(u16::from_le_bytes([operands[0], operands[1]])),
         _ => Command::End,
     }
 }
@@ -76,17 +66,7 @@ pub fn command_of(code: u8, operands: &[u8]) -> Command
 pub fn is_end(command: Command) -> bool
     ensures { result ≡ is_end (command_in command).kind }
 {
-    if let Command::End = command {
-        return true;
-    }
-    false
-}
-
-// The bytes of a command, which are the first `length` ones.
-#[derive(Drop)]
-pub struct Coded {
-    pub bytes: [u8; 4],
-    pub length: usize,
+    matches!(command, Command::End)
 }
 
 // A command as bytes.
@@ -94,45 +74,15 @@ pub fn encode(command: Command) -> Coded
     ensures { CodedSays command result }
 {
     match command {
-        Command::Sizes(queues, block, depth) => Coded {
-            bytes: [SIZES, queues, block, depth],
-            length: 4,
-        },
-        Command::Idle => Coded {
-            bytes: [IDLE, 0, 0, 0],
-            length: 1,
-        },
-        Command::Arrive(queue, value) => Coded {
-            bytes: [ARRIVE, queue, value, 0],
-            length: 3,
-        },
-        Command::Ask(queue) => Coded {
-            bytes: [ASK, queue, 0, 0],
-            length: 2,
-        },
-        Command::Both(queue, value, request) => Coded {
-            bytes: [BOTH, queue, value, request],
-            length: 4,
-        },
-        Command::Idles(count) => Coded {
-            bytes: [IDLES, (count % 256) as u8, (count / 256) as u8, 0],
-            length: 3,
-        },
-        Command::End => Coded {
-            bytes: [END, 0, 0, 0],
-            length: 1,
-        },
-    }
-}
-
-// The first bytes of the output become these.
-pub fn put(bytes: &[u8], output: &mut [u8])
-    requires { length bytes.now ≤ length output.old }
-    ensures { output.new ≡ put_over bytes.now output.old }
-{
-    let mut i = 0;
-    while i < bytes.len() {
-        output[i] = bytes[i];
-        i += 1;
+        Command::Sizes(queues, block, depth) => Coded::new(&[SIZES, queues, block, depth]),
+        Command::Idle => Coded::new(&[IDLE]),
+        Command::Arrive(queue, value) => Coded::new(&[ARRIVE, queue, value]),
+        Command::Ask(queue) => Coded::new(&[ASK, queue]),
+        Command::Both(queue, value, request) => Coded::new(&[BOTH, queue, value, request]),
+        Command::Idles(count) => {
+            let [low, high] = count.to_le_bytes();
+            Coded::new(&[IDLES, low, high])
+        }
+        Command::End => Coded::new(&[END]),
     }
 }

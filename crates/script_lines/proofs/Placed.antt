@@ -4,8 +4,8 @@ use mathlib.Core.List.{List, [], ◌∷◌, ◌++◌, append_assoc}
 use Prim.Native.Nat.{ℕ, ◌+◌, ◌≤◌, ◌<◌}
 use native.Mathlib.Numerals.{add-one}
 use native.Mathlib.Omega.{arith}
-use lib.ListN.{length, take, drop, set, get_or, length-append, length-take, take-append-drop}
-use lib.Seq.{take_at, drop_at, drop-drop, set_split, length-take-le, take-suc, take-length}
+use lib.ListN.{length, take, drop, set, length-append, length-take, take-append-drop}
+use lib.Seq.{take_at, drop_at, drop-drop, set_split}
 use Rattle.model.specs.Slot.{placed}
 use Rattle.model.proofs.one_slot.Kept.{length-placed}
 use Rattle.script_lines.specs.Says.{PutSays}
@@ -57,22 +57,3 @@ module _ {xs : List ℕ} {p : ℕ} {o : List ℕ} {r : ℕ} {o' : List ℕ} (put
 -- One byte is a store to its place.
 pub put_one : (v p : ℕ) (o : List ℕ) → p < length o → PutSays (v ∷ []) p o (p + 1) (set o p v)
 put_one v p o h = record { place_is = refl; output_is = rw add-one (set_split o p v h) }
-
--- Bytes copied one by one.
-module _ (bytes : List ℕ) (p : ℕ) (o : List ℕ) where
-  pub copy_starts : PutSays (take 0 bytes) p o (p + 0) o
-  copy_starts = let e : p + 0 ≡ p = omega arith in rw e (put_nothing p o)
-
-  pub copies_one : (i : ℕ) (o' : List ℕ) → i < length bytes → p + i < length o → PutSays (take i bytes) p o (p + i) o'
-      → PutSays (take (i + 1) bytes) p o (p + (i + 1)) (set o' (p + i) (get_or bytes i 0))
-  copies_one i o' h room put =
-      let long : length (take i bytes) ≡ i = length-take-le i bytes (omega arith) in
-      let more : take (i + 1) bytes ≡ take i bytes ++ get_or bytes i 0 ∷ [] = rw add-one (take-suc bytes i 0 h) in
-      let kept : length o' ≡ length o = put_keeps_length put (omega arith) in
-      let next = put_one (get_or bytes i 0) (p + i) o' (omega arith) in
-      let e : p + (i + 1) ≡ p + i + 1 = omega arith in
-      rw (more, e) (put_then_put put next (simp length-append (omega arith)))
-
-  pub copy_ends : (i : ℕ) (o' : List ℕ) → i ≡ length bytes → PutSays (take i bytes) p o (p + i) o'
-      → PutSays bytes p o (p + length bytes) o'
-  copy_ends i o' e put = rw (e, take-length) at put

@@ -1,5 +1,6 @@
 // The lines that the program prints, put into a lent output. Each function puts bytes from a place on, leaves every
-// other byte as it was, and returns the place behind them.
+// other byte as it was, and returns the place behind them: `write!` to a lent slice promises no bytes, and there is no heap
+// to print to. A refusal is a number here, since a line tells those of slots, of sizes and of scripts alike.
 #![tactic(auto)]
 
 ghost use Rattle.std.specs.Prelude.{[], ◌∷◌, ◌+◌, ◌≤◌, ◌<◌, length};
@@ -18,13 +19,9 @@ fn put_bytes(output: &mut [u8], place: usize, bytes: &[u8]) -> usize
     requires { place + length bytes.now ≤ length output.old }
     ensures { PutSays bytes.now place output.old result output.new }
 {
-    let n = bytes.len();
-    let mut i: usize = 0;
-    while i < n {
-        output[place + i] = bytes[i];
-        i += 1;
-    }
-    place + n
+    let behind = place + bytes.len();
+    output[place..behind].copy_from_slice(bytes);
+    behind
 }
 
 // A number in decimal, after a space.

@@ -3,6 +3,7 @@
 use mathlib.Core.Path.{◌≡◌, refl, ap, sym, ◌∙◌, subst}
 use mathlib.Core.Bool.{Bool, true}
 use mathlib.Core.List.{List, [], ◌∷◌, ◌++◌}
+use Rattle.std.specs.Prelude.{Ok, Err}
 use Prim.Native.Nat.{ℕ, zero, suc, ◌+◌, ◌*◌, ◌≤◌, ◌<◌}
 use native.Mathlib.Omega.{arith}
 use lib.Dec.{ltb}
@@ -17,7 +18,10 @@ use Rattle.model.proofs.basics.Limits.{Within, within_limits, row_within, store_
 use Rattle.model.proofs.one_slot.Rules.{made_accepted, keeps-fresh, keeps-holds}
 use Rattle.layout.specs.Counts.{ByQueue}
 use Rattle.layout.specs.Views.{Arrays}
-use Rattle.buffer.specs.declared.Made.{Made}
+use Rattle.layout.specs.Calls.{number_of}
+use Rattle.layout.specs.declared.Refusal.{Refusal}
+use Rattle.layout.proofs.Refusals.{refusal_is_some}
+use Rattle.buffer.specs.declared.State as code
 use Rattle.buffer.specs.Says.{state_of, MakeSays}
 use Rattle.script_commands.specs.Commands.{Command}
 use Rattle.script_commands.specs.Scripts.{Script}
@@ -180,24 +184,25 @@ module _ (script : Script) (good : script.number ≡ 0) (store : List ℕ) (n : 
         store_is = sym refused-store;
       }
 
--- The making of a state for the sizes of a script.
-module _ (q b k : ℕ) (made : Made) (says : MakeSays q b k made) (cs : List Command)
-    (sizes-are : sizes q b k ≡ sizes_of cs) (store : List ℕ) where
-  pub sizes-refused : (made.number ≡ 0 → ⊥) → start_number (sizes_of cs) store ≡ made.number
-  sizes-refused f =
+-- The making of a state for the sizes of a script, refused; and a store that is too short for them.
+module _ (q b k : ℕ) (cs : List Command) (sizes-are : sizes q b k ≡ sizes_of cs) (store : List ℕ) where
+  pub sizes-refused : {reason : Refusal} → MakeSays q b k (Err reason)
+      → start_number (sizes_of cs) store ≡ number_of reason
+  sizes-refused {reason} says =
       ap (λ (s : Sizes). start_number s store) (sym sizes-are)
-      ∙ starts-refused (sizes q b k) store (λ e. f (says.number_is ∙ e))
+      ∙ starts-refused (sizes q b k) store (λ e. refusal_is_some reason (says.number_is ∙ e))
       ∙ sym says.number_is
 
-  pub store_refused : made.number ≡ 0 → length store < q * k * b → start_number (sizes_of cs) store ≡ 2
-  store_refused taken h =
+  pub store_refused : {made : code.State} → MakeSays q b k (Ok made) → length store < q * k * b
+      → start_number (sizes_of cs) store ≡ 2
+  store_refused says h =
       ap (λ (s : Sizes). start_number s store) (sym sizes-are)
-      ∙ starts-short (sizes q b k) store (sym says.number_is ∙ taken) h
+      ∙ starts-short (sizes q b k) store (sym says.number_is) h
 
 -- A state that was made, for a script that was judged good.
-module _ (q b k : ℕ) (made : Made) (says : MakeSays q b k made) (taken : made.number ≡ 0) where
+module _ (q b k : ℕ) (made : code.State) (says : MakeSays q b k (Ok made)) where
   not-refused : making_number paper (sizes q b k) ≡ 0
-  not-refused = sym says.number_is ∙ taken
+  not-refused = sym says.number_is
 
   accepted-sizes : accepts paper_limits (sizes q b k) ≡ true
   accepted-sizes = made_accepted paper (sizes q b k) not-refused
@@ -211,16 +216,16 @@ module _ (q b k : ℕ) (made : Made) (says : MakeSays q b k made) (taken : made.
   pub need_small : q * k * b ≤ 64 * 255 * 128
   need_small = store_within paper_limits (sizes q b k) limits
 
-  is_fresh : state_of made.state ≡ fresh paper (sizes q b k)
-  is_fresh = says.fresh-is accepted-sizes
+  is_fresh : state_of made ≡ fresh paper (sizes q b k)
+  is_fresh = says.made_is.fresh-is
 
-  pub made_kept : keeps paper (state_of made.state) ≡ true
+  pub made_kept : keeps paper (state_of made) ≡ true
   made_kept =
       ap (keeps paper) is_fresh
       ∙ keeps-holds paper (fresh paper (sizes q b k)) (keeps-fresh paper (sizes q b k) accepted-sizes)
 
   module _ (store : List ℕ) (enough : q * k * b ≤ length store) where
-    pub store_enough : store_bytes (state_of made.state).sizes ≤ length store
+    pub store_enough : store_bytes (state_of made).sizes ≤ length store
     store_enough =
         subst (λ (s : Sizes). store_bytes s ≤ length store) (sym (ap (λ (x : State). x.sizes) is_fresh)) enough
 
@@ -232,33 +237,33 @@ module _ (q b k : ℕ) (made : Made) (says : MakeSays q b k made) (taken : made.
           ∙ starts-well (sizes q b k) store not-refused enough
 
       -- The state and the calls that are run are the definition's.
-      state_runs : state_of made.state ≡ fresh paper (sizes_of script.commands)
+      state_runs : state_of made ≡ fresh paper (sizes_of script.commands)
       state_runs = is_fresh ∙ ap (fresh paper) sizes-are
 
-      run-lines : judged_lines script store ≡ list_lines (run paper (state_of made.state) store calls)
+      run-lines : judged_lines script store ≡ list_lines (run paper (state_of made) store calls)
       run-lines =
           good_lines script good store 0 started
           ∙ ap (λ (x : State). list_lines (run paper x store (slots_of_all script.commands))) (sym state_runs)
-          ∙ ap (λ (cs : List Call). list_lines (run paper (state_of made.state) store cs)) (sym calls_are)
+          ∙ ap (λ (cs : List Call). list_lines (run paper (state_of made) store cs)) (sym calls_are)
 
-      run_store : judged_store script store ≡ last_store paper (state_of made.state) store calls
+      run_store : judged_store script store ≡ last_store paper (state_of made) store calls
       run_store =
           good_store script good store 0 started
           ∙ ap (λ (x : State). last_store paper x store (slots_of_all script.commands)) (sym state_runs)
-          ∙ ap (last_store paper (state_of made.state) store) (sym calls_are)
+          ∙ ap (last_store paper (state_of made) store) (sym calls_are)
 
       module _ (output : List ℕ) where
         pub list_fits : length (text (judged_lines script store)) ≤ length output
             → length (slots_of_all script.commands) < count_limit
-            → ListFits (state_of made.state) store calls output
+            → ListFits (state_of made) store calls output
         list_fits fits few = record {
           lines_fit = subst (λ (l : List Line). length (text l) ≤ length output) run-lines fits;
           slots_fit = subst (λ (cs : List Call). length cs < count_limit) (sym calls_are) few;
         }
 
         pub started_runs : {r : ℕ} {store' output' : List ℕ}
-            → PrintsSays (list_lines (run paper (state_of made.state) store calls))
-            (last_store paper (state_of made.state) store calls) output r store' output'
+            → PrintsSays (list_lines (run paper (state_of made) store calls))
+            (last_store paper (state_of made) store calls) output r store' output'
             → PrintsSays (judged_lines script store) (judged_store script store) output r store' output'
         started_runs {r} {store'} {output'} prints = record {
           lines_are =

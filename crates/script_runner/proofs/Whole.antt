@@ -1,4 +1,5 @@
 -- Any bytes as a script: too long, faulty, or good; and with an output that may be too short, or not.
+use Rattle.std.specs.Prelude.{Ok, Err}
 use mathlib.Core.Path.{◌≡◌, ap, sym, ◌∙◌, subst}
 use mathlib.Core.Bool.{Bool, true, false}
 use mathlib.Core.List.{List, [], ◌∷◌, ◌++◌}
@@ -8,10 +9,12 @@ use native.Mathlib.Nat.{zero-add}
 use native.Mathlib.Omega.{arith}
 use lib.ListN.{length, drop}
 use borrow.Author.Tests.{ne_eqb, lt-ltb, le-ltb}
+use Rattle.std.specs.Prelude.{Ok, Err}
 use Rattle.model.specs.Basics.{choose}
 use Rattle.script_commands.specs.Scripts.{Script, judge}
-use Rattle.scripts.specs.declared.Judged.{Judged}
-use Rattle.scripts.specs.Says.{ScriptJudged}
+use Rattle.scripts.specs.declared.Fault.{Fault}
+use Rattle.scripts.specs.Says.{number_of, ScriptJudged}
+use Rattle.scripts.proofs.Back.{number_not_zero}
 use Rattle.script_lines.specs.Lines.{Line, fault, line_text, text}
 use Rattle.script_lines.specs.Says.{PutSays}
 use Rattle.script_lines.proofs.Pieces.{one_line}
@@ -21,7 +24,7 @@ use Rattle.script_text.proofs.Lengths.{fault_length}
 use Rattle.script_text.proofs.ScriptCharges.{Bytes, slots_below}
 use Rattle.script_text.proofs.Bound.{text-fits}
 use Rattle.script_text.proofs.Program.{long_lines}
-use Rattle.script_runner.specs.declared.Ran.TheVariants.{Printed, TooShort}
+use Rattle.script_runner.specs.declared.OutputTooShort as runner
 use Rattle.script_runner.specs.Says.{GoodFits, PrintsSays, short, ScriptSays}
 
 -- Too long, or not.
@@ -85,18 +88,18 @@ module _ (script store output : List ℕ) where
         prints_one script store output (fault 15 most_bytes) (long_lines script store long)
         (long_store script store long) put
 
-  module _ (within : length script ≤ most_bytes) (j : Judged) (says : ScriptJudged script j) where
+  module _ (within : length script ≤ most_bytes) where
     -- "A script refusal prints only S n offset"
-    module _ (faulty : j.number ≡ 0 → ⊥) where
+    module _ (j : Fault) (says : ScriptJudged script (Err j)) where
       not_good : (judge script).number ≡ 0 → ⊥
-      not_good e = faulty (says.number_is ∙ e)
+      not_good e = number_not_zero j.refusal (says.number_is ∙ e)
 
-      fault_is : fault (judge script).number (judge script).offset ≡ fault j.number j.offset
+      fault_is : fault (judge script).number (judge script).offset ≡ fault (number_of j.refusal) j.offset
       fault_is =
           ap (λ (n : ℕ). fault n (judge script).offset) (sym says.number_is)
-          ∙ ap (fault j.number) (sym says.offset_is)
+          ∙ ap (fault (number_of j.refusal)) (sym says.offset_is)
 
-      lines_are : script_lines script store ≡ fault j.number j.offset ∷ []
+      lines_are : script_lines script store ≡ fault (number_of j.refusal) j.offset ∷ []
       lines_are =
           judged_lines_lem script store within
           ∙ faulty-lines (judge script) store not_good
@@ -106,20 +109,20 @@ module _ (script store output : List ℕ) where
       store_stays = judged_store_lem script store within ∙ faulty-store (judge script) store not_good
 
       pub fault_fits : Bytes script → output_bound (length script) ≤ length output
-          → 0 + length (line_text (fault j.number j.offset)) ≤ length output
-      fault_fits = one_fits script store output (fault j.number j.offset) lines_are store_stays
+          → 0 + length (line_text (fault (number_of j.refusal) j.offset)) ≤ length output
+      fault_fits = one_fits script store output (fault (number_of j.refusal) j.offset) lines_are store_stays
 
       pub fault_prints : {r : ℕ} {output' : List ℕ}
-          → PutSays (line_text (fault j.number j.offset)) 0 output r output'
+          → PutSays (line_text (fault (number_of j.refusal) j.offset)) 0 output r output'
           → PrintsSays (script_lines script store) (script_store script store) output r store output'
       fault_prints put =
-          prints_one script store output (fault j.number j.offset) lines_are store_stays put
+          prints_one script store output (fault (number_of j.refusal) j.offset) lines_are store_stays put
 
     -- A script that was judged good.
-    pub good_fits : j.number ≡ 0 → Bytes script → output_bound (length script) ≤ length output
+    pub good_fits : ScriptJudged script (Ok tt) → Bytes script → output_bound (length script) ≤ length output
         → GoodFits script store output
-    good_fits good bytes h = record {
-      good = sym says.number_is ∙ good;
+    good_fits says bytes h = record {
+      good = sym says.number_is;
       lines_fit = omega (
         arith,
         text-fits script store bytes,
@@ -140,7 +143,7 @@ module _ (script store output : List ℕ) where
     }
 
   -- An output that may be too short is left as it is, and so is the store.
-  pub too_short : length output < output_bound (length script) → ScriptSays script store output TooShort store output
+  pub too_short : length output < output_bound (length script) → {e : runner.OutputTooShort} → ScriptSays script store output (Err e) store output
   too_short h =
       let t : short script output ≡ true = lt-ltb (length output) (output_bound (length script)) h in
       record {
@@ -154,7 +157,7 @@ module _ (script store output : List ℕ) where
 
   pub long_enough : output_bound (length script) ≤ length output → {r : ℕ} {store' output' : List ℕ}
       → PrintsSays (script_lines script store) (script_store script store) output r store' output'
-      → ScriptSays script store output (Printed r) store' output'
+      → ScriptSays script store output (Ok r) store' output'
   long_enough h {r} {store'} {output'} prints =
       let t : short script output ≡ false = le-ltb (length output) (output_bound (length script)) h in
       let all : r ≡ length (text (script_lines script store)) = omega (arith, prints.lines_are.place_is) in

@@ -1,5 +1,5 @@
 -- What the runner promises, by the definition of what a script prints.
-use Rattle.std.specs.Prelude.{◌≡◌, Bool, false, List, [], ◌++◌, ℕ, ◌≤◌, ◌<◌, ltb, length, drop}
+use Rattle.std.specs.Prelude.{◌≡◌, Bool, false, List, [], ◌++◌, ℕ, ◌≤◌, ◌<◌, ltb, length, drop, Result, Ok, Err}
 use Rattle.std.proofs.Math.Option.{Option, some, none}
 use Rattle.model.specs.Basics.{choose}
 use Rattle.model.specs.Sizes.{sizes, paper}
@@ -12,8 +12,7 @@ use Rattle.script_lines.specs.Says.{PutSays}
 use Rattle.script_text.specs.Run.{slots_of_all, sizes_of, list_lines, judged_lines, script_lines, script_store, output_bound}
 use Rattle.script_slots.specs.Says.{count_limit}
 use Rattle.script_runner.specs.declared.FirstSizes.{FirstSizes}
-use Rattle.script_runner.specs.declared.Ran.{Ran}
-use Rattle.script_runner.specs.declared.Ran.TheVariants.{Printed, TooShort}
+use Rattle.script_runner.specs.declared.OutputTooShort.{OutputTooShort}
 
 -- The script from a place on where a command is due that is not the first: judged as the definition judges it, and at
 -- its end nothing is left. The slots of its commands.
@@ -47,9 +46,9 @@ pub record PrintsSays (lines : List Line) (left output : List ℕ) (r : ℕ) (st
   pub store_is : store' ≡ left
 
 -- How many bytes were printed, or none.
-abbrev pub printed_in : Ran → Option ℕ
-printed_in (Printed n) = some n
-printed_in TooShort = none
+abbrev pub printed_in : Result ℕ OutputTooShort → Option ℕ
+printed_in (Ok n) = some n
+printed_in (Err e) = none
 
 -- The output is shorter than what a script of so many bytes can need.
 abbrev pub short : List ℕ → List ℕ → Bool
@@ -57,7 +56,7 @@ short script output = ltb (length output) (output_bound (length script))
 
 -- Any bytes as a script, on any store: exactly the defined text at the start of the output and nothing else changed
 -- there, the store as the script leaves it; or, where the output is too short, nothing changed.
-pub record ScriptSays (script store output : List ℕ) (r : Ran) (store' output' : List ℕ) : Type 0 where
+pub record ScriptSays (script store output : List ℕ) (r : Result ℕ OutputTooShort) (store' output' : List ℕ) : Type 0 where
   pub answer-is : printed_in r ≡ choose (short script output) none (some (length (text (script_lines script store))))
   pub output_is : output'
       ≡ choose (short script output) output

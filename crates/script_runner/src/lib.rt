@@ -1,10 +1,12 @@
-// A script run on a buffer: judged whole, then its slots in place and its lines into a lent output.
+// A script run on a buffer: judged whole, then its slots in place and its lines into a lent output. The arrays are lent
+// one by one: crates/layout says why.
 #![tactic(auto)]
 
 ghost use Rattle.std.specs.Prelude.{◌≡◌, true, [], ◌∷◌, ◌≤◌, length};
 ghost use Rattle.model.specs.Sizes.{paper, store_bytes};
 ghost use Rattle.model.specs.State.{keeps};
 ghost use Rattle.model.specs.Lists.{run, last_store};
+ghost use Rattle.layout.specs.Calls.{number_of};
 ghost use Rattle.layout.specs.Lent.{given, found, left, counts_given, counts_left};
 ghost use Rattle.layout.specs.Views.{sizes_in, state_in};
 ghost use Rattle.slot_in_place.specs.Says.{Ready};
@@ -18,10 +20,9 @@ ghost use Rattle.script_runner.specs.Says.{script_from, calls_from, SizesSays, L
 ghost use Rattle.script_runner.specs.Says.{GoodFits, ScriptSays};
 
 use buffer::State;
-use layout::{CellArray, CountArray, HeadArray, RingArray, TailArray};
+use layout::{CellArray, CountArray, HeadArray, Refusal, RingArray, TailArray};
 use script_commands::Command;
 use script_slots::Progress;
-use scripts::Reading;
 
 // The commands from a place of a script on that was judged good, to its end.
 fn run_commands(
@@ -53,26 +54,24 @@ fn run_commands(
 {
     let mut reached = start;
     let mut at = from;
+    // Commands differ in length, so that no iterator of the library goes over them.
     while at < script.len() {
-        let reading = scripts::read(&script[at..], false);
-        match reading {
-            Reading::Taken(command, length) => {
+        match scripts::read(&script[at..], false) {
+            Ok((command, length)) => {
                 reached = script_slots::run_command(
                     tail, head, cells, firsts, stored, tails, heads, owing, reached, command,
                     store, output,
                 );
-                at = at + length;
+                at += length;
             }
-            Reading::Refused(number) => {
-                return reached;
-            }
+            Err(_) => return reached,
         }
     }
     reached
 }
 
 // The sizes that a script begins with, and how many bytes that command has.
-#[derive(Drop)]
+#[derive(Clone, Copy)]
 struct FirstSizes {
     queues: usize,
     block: usize,
@@ -85,34 +84,29 @@ fn first_sizes(script: &[u8]) -> FirstSizes
     requires { (judge script.now).number ≡ 0 }
     ensures { SizesSays script.now result }
 {
-    let reading = scripts::read(script, true);
-    let Reading::Taken(command, length) = reading else {
-        return FirstSizes {
-            queues: 0,
-            block: 0,
-            depth: 0,
-            length: 0,
-        };
+    let Ok((command, length)) = scripts::read(script, true) else {
+        unreachable!();
     };
     let Command::Sizes(queues, block, depth) = command else {
-        return FirstSizes {
-            queues: 0,
-            block: 0,
-            depth: 0,
-            length: 0,
-        };
+        unreachable!();
     };
     FirstSizes {
         queues: queues as usize,
         block: block as usize,
         depth: depth as usize,
-        length: length,
+        length,
     }
 }
 
-// All slots of a script behind its sizes, from a state on, and the last line. The state's arrays are copied once and
-// run in place.
-fn run_all(state: State, script: &[u8], from: usize, store: &mut [u8], output: &mut [u8]) -> usize
+// All slots of a script behind its sizes, from a state on, and the last line. The state lends its arrays, and the slots run
+// in place.
+fn run_all(
+    mut state: State,
+    script: &[u8],
+    from: usize,
+    store: &mut [u8],
+    output: &mut [u8],
+) -> usize
     requires { (keeps paper (state_of state) ≡ true) × (store_bytes (sizes_in state.regs) ≤ length store.old)
         × ((script_from script.now from).number ≡ 0)
         × ListFits (state_of state) store.old (calls_from script.now from) output.old }
@@ -121,30 +115,21 @@ fn run_all(state: State, script: &[u8], from: usize, store: &mut [u8], output: &
         (last_store paper (state_of state) store.old (calls_from script.now from))
         output.old result store.new output.new }
 {
-    let regs = state.regs;
-    let mut tail = state.tail;
-    let mut head = state.head;
-    let mut cells = state.cells;
-    let mut firsts = state.firsts;
-    let mut stored = state.stored;
-    let taken = slot_counts::take(&tail, &head, &cells, regs);
-    let mut tails = taken.tails;
-    let mut heads = taken.heads;
-    let mut owing = taken.owing;
+    let mut counts = slot_counts::take(&state.tail, &state.head, &state.cells, state.regs);
     let start = Progress {
-        regs: regs,
+        regs: state.regs,
         slots: 0,
         place: 0,
     };
     let last = run_commands(
-        &mut tail,
-        &mut head,
-        &mut cells,
-        &mut firsts,
-        &mut stored,
-        &mut tails,
-        &mut heads,
-        &mut owing,
+        &mut state.tail,
+        &mut state.head,
+        &mut state.cells,
+        &mut state.firsts,
+        &mut state.stored,
+        &mut counts.tails,
+        &mut counts.heads,
+        &mut counts.owing,
         start,
         script,
         from,
@@ -155,12 +140,12 @@ fn run_all(state: State, script: &[u8], from: usize, store: &mut [u8], output: &
 }
 
 // A script whose sizes, or the store, are refused: the refusal, and that no slot was accepted.
-fn refuse_start(output: &mut [u8], number: u8) -> usize
-    requires { length (text (refusal 0 number ∷ ending 0 ∷ [])) ≤ length output.old }
-    ensures { PutSays (text (refusal 0 number ∷ ending 0 ∷ [])) 0 output.old result
+fn refuse_start(output: &mut [u8], reason: Refusal) -> usize
+    requires { length (text (refusal 0 (number_of reason) ∷ ending 0 ∷ [])) ≤ length output.old }
+    ensures { PutSays (text (refusal 0 (number_of reason) ∷ ending 0 ∷ [])) 0 output.old result
         output.new }
 {
-    let behind = script_lines::put_refusal(output, 0, 0, number);
+    let behind = script_lines::put_refusal(output, 0, 0, u8::from(reason));
     script_lines::put_ending(output, behind, 0)
 }
 
@@ -171,20 +156,21 @@ fn run_good(script: &[u8], store: &mut [u8], output: &mut [u8]) -> usize
         (judged_store (judge script.now) store.old)
         output.old result store.new output.new }
 {
-    let first = first_sizes(script);
-    let queues = first.queues;
-    let block = first.block;
-    let depth = first.depth;
-    let made = State::make(queues, block, depth);
-    let refused = made.number;
-    if refused != 0 {
-        return refuse_start(output, refused);
+    let FirstSizes {
+        queues,
+        block,
+        depth,
+        length,
+    } = first_sizes(script);
+    match State::make(queues, block, depth) {
+        Ok(state) => {
+            if store.len() < queues * depth * block {
+                return refuse_start(output, Refusal::ShortStore);
+            }
+            run_all(state, script, length, store, output)
+        }
+        Err(reason) => refuse_start(output, reason),
     }
-    if store.len() < queues * depth * block {
-        return refuse_start(output, 2);
-    }
-    let state = made.state;
-    run_all(state, script, first.length, store, output)
 }
 
 // "reads a script of at most 65,536 bytes"
@@ -200,12 +186,10 @@ fn print_script(script: &[u8], store: &mut [u8], output: &mut [u8]) -> usize
     if MOST_BYTES < script.len() {
         return script_lines::put_fault(output, 0, 15, MOST_BYTES);
     }
-    let judged = scripts::judge(script);
-    let fault = judged.number;
-    if fault != 0 {
-        return script_lines::put_fault(output, 0, fault, judged.offset);
+    match scripts::judge(script) {
+        Ok(()) => run_good(script, store, output),
+        Err(fault) => { script_lines::put_fault(output, 0, fault.refusal.into(), fault.offset) }
     }
-    run_good(script, store, output)
 }
 
 // How much output `run_script` asks for a script of so many bytes: 11 bytes for each, up to 65,536 of them, and 11
@@ -213,28 +197,26 @@ fn print_script(script: &[u8], store: &mut [u8], output: &mut [u8]) -> usize
 pub fn output_asked(script_bytes: usize) -> usize
     ensures { result ≡ output_bound script_bytes }
 {
-    let bytes = minmax::smaller(script_bytes, MOST_BYTES);
-    11 * bytes + 11
+    11 * script_bytes.min(MOST_BYTES) + 11
 }
 
-// What running a script answers: how many bytes it printed, or that the output is shorter than `output_asked`.
-#[derive(Drop)]
-pub enum Ran {
-    Printed(usize),
-    TooShort,
-}
+// The output is shorter than `output_asked`.
+#[derive(Clone, Copy, PartialEq, Eq, Debug)]
+pub struct OutputTooShort;
 
-// Any bytes as a script, on any store, with any output. Nothing is touched where the output is shorter than
-// `output_asked` of the script's length, also where what the script prints would have fitted: that is not known before
-// its slots have run and the store has changed.
-pub fn run_script(script: &[u8], store: &mut [u8], output: &mut [u8]) -> Ran
+// Any bytes as a script, on any store, with any output: how many bytes it printed. Nothing is touched where the output
+// is shorter than `output_asked` of the script's length, also where what the script prints would have fitted: that is
+// not known before its slots have run and the store has changed.
+pub fn run_script(
+    script: &[u8],
+    store: &mut [u8],
+    output: &mut [u8],
+) -> Result<usize, OutputTooShort>
     ensures { ScriptSays script.now store.old output.old result
         store.new output.new }
 {
-    let asked = output_asked(script.len());
-    if output.len() < asked {
-        return Ran::TooShort;
+    if output.len() < output_asked(script.len()) {
+        return Err(OutputTooShort);
     }
-    let printed = print_script(script, store, output);
-    Ran::Printed(printed)
+    Ok(print_script(script, store, output))
 }

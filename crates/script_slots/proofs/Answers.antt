@@ -117,7 +117,7 @@ module _ (t : ℕ) (reply : Reply) (place : ℕ) (output : List ℕ) where
     }
 
   -- A slot that ran: what it delivers, then its halves, then its read.
-  module _ (ran : reply.number ≡ 0) (fits : AnswerFits t reply place output) where
+  module _ (ran : reply.number ≡ 0) (fits : place + length (text (answer_lines t reply)) ≤ length output) where
     abbrev delivers : List Line
     delivers = delivery_lines t reply.delivered
 
@@ -141,7 +141,7 @@ module _ (t : ℕ) (reply : Reply) (place : ℕ) (output : List ℕ) where
     all_lines = rw ran
 
     all_fit : place + length (text (running_lines t reply)) ≤ length output
-    all_fit = omega (arith, fits.lines_fit, ap (λ (l : List Line). length (text l)) all_lines)
+    all_fit = omega (arith, fits, ap (λ (l : List Line). length (text l)) all_lines)
 
     pub delivery-fits : place + length (text delivers) ≤ length output
     delivery-fits = first_fits delivers from_arrival place output all_fit
@@ -164,16 +164,13 @@ module _ (t : ℕ) (reply : Reply) (place : ℕ) (output : List ℕ) where
           pub read_fits : r + length (text read_lines) ≤ length output₃
           read_fits = next_fits request_lines read_lines q output₂ two_fit asked
 
-          pub answers-running : {s : ℕ} {output₄ : List ℕ} → PutSays (text read_lines) r output₃ s output₄
-              → AnswerSays t reply place output (put (t + 1) s) output₄
-          answers-running {s} {output₄} read = record {
-            lines_are =
-                subst (λ (l : List Line). PutSays (text l) place output s output₄) (sym all_lines)
-                (both-put delivers from_arrival place output all_fit delivered
-                (both-put arrival_lines from_request p output₁ rest_fits arrived
-                (both-put request_lines read_lines q output₂ two_fit asked read)));
-            slots_is = let e : t + 1 ≡ suc t = omega arith in e ∙ ap (count_on t) (sym ran);
-          }
+          pub running-put : {s : ℕ} {output₄ : List ℕ} → PutSays (text read_lines) r output₃ s output₄
+              → PutSays (text (answer_lines t reply)) place output s output₄
+          running-put {s} {output₄} read =
+              subst (λ (l : List Line). PutSays (text l) place output s output₄) (sym all_lines)
+              (both-put delivers from_arrival place output all_fit delivered
+              (both-put arrival_lines from_request p output₁ rest_fits arrived
+              (both-put request_lines read_lines q output₂ two_fit asked read)))
 
 -- n idle slots are i of them and those left.
 pub idles-left : (n i : ℕ) → i ≤ n → idles n ≡ idles i ++ idles (n - i)
@@ -272,7 +269,7 @@ module _ {x : State} {store : List ℕ} {n : ℕ} {r : Passed} {m : Arrays} {cou
         ∙ append-nil (answer_lines (t + before) last.reply)
         ∙ ap (answer_lines (t + before)) (sym reply_last)
 
-    stretch_count : (t : ℕ) → count_on (t + before) r.reply.number
+    stretch_count : (t : ℕ) → count_on (t + before) (reply_in r.reply).number
         ≡ t + length (accepted (run paper x store (idles r.passed)))
     stretch_count t =
         ap (λ (told : Reply). count_on (t + before) told.number) reply_last

@@ -49,5 +49,5 @@ pub record Room (x : State) (store : List ℕ) (calls : List Call) (t place : �
 
 -- The slots that are wanted.
 abbrev pub wanted_in : Wanted → List Call
-wanted_in (One arrival request) = call_in arrival request ∷ []
+wanted_in (One call) = call_in call ∷ []
 wanted_in (Many n) = idles n

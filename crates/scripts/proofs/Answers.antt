@@ -1,77 +1,36 @@
--- The reader's answers are those of the definitions, in the paper's order: 15 where nothing is left, 12 for a code of
--- no row, 14 for a command out of place, 13 for operands cut short, and else the command.
-use mathlib.Core.Path.{◌≡◌, refl, sym, ap, ◌∙◌}
-use mathlib.Core.Bool.{Bool, true, false}
-use mathlib.Core.List.{List, [], ◌∷◌}
-use mathlib.Core.Option.{Option, some, none}
-use Prim.Native.Nat.{ℕ, ◌+◌, ◌≤◌, ◌<◌}
+-- The reader takes a command where no refusal's condition holds: its code is a known one, in its place, with bytes
+-- enough for its operands.
+use Rattle.std.specs.Prelude as rust
+use Rattle.std.specs.Prelude.{Some, None}
+use mathlib.Core.Path.{◌≡◌, sym, ap, ◌∙◌}
+use mathlib.Core.Bool.{Bool, false}
+use mathlib.Core.List.{List, ◌∷◌}
+use mathlib.Core.Option.{Option}
+use Prim.Native.Nat.{ℕ, ◌+◌, ◌≤◌}
 use native.Mathlib.Omega.{arith}
-use lib.ListN.{length, drop, get_or, length-drop}
+use lib.ListN.{length}
 use Rattle.model.proofs.basics.Tests.{by_option}
 use Rattle.script_commands.specs.Commands.{Kind, row, kind_of, widths}
-use Rattle.script_commands.specs.Scripts.{refused, taken, read_code, read_command}
+use Rattle.script_commands.specs.Scripts.{taken, read_code, read_command}
 use Rattle.script_commands.specs.Values.{command_in}
 use Rattle.script_commands.specs.declared.Command as enum
-use Rattle.script_commands.proofs.Judging.{reads_out_of_place, reads_cut_short, reads_taken}
-use Rattle.script_codes.specs.Says.{length_of, PlaceSays, Enough, CommandSays}
+use Rattle.script_commands.proofs.Judging.{reads_taken}
+use Rattle.script_codes.specs.Says.{length_of, PlaceSays, CommandSays}
 
-module _ (rest : List ℕ) (first : Bool) where
-  pub nothing_left : length rest ≡ 0 → refused 15 ≡ read_command first rest
-  nothing_left empty = go rest empty
-    where
-      go : (bytes : List ℕ) → length bytes ≡ 0 → refused 15 ≡ read_command first bytes
-      go [] e = refl
-      go (x ∷ bytes) e = absurd (omega arith)
+some_not_none : (n : ℕ) → ◌≡◌ {A = rust.Option ℕ} (Some n) None → ⊥
+some_not_none n e = let z : ◌≡◌ {A = ℕ} 0 1 = cc in omega arith
 
-  -- Where a byte is left, it is the code.
-  reads_code : (length rest ≡ 0 → ⊥) → read_command first rest ≡ read_code first (kind_of (get_or rest 0 0)) (drop 1 rest)
-  reads_code some_left = go rest some_left
-    where
-      go : (bytes : List ℕ) → (length bytes ≡ 0 → ⊥)
-          → read_command first bytes ≡ read_code first (kind_of (get_or bytes 0 0)) (drop 1 bytes)
-      go [] left = absurd (left refl)
-      go (x ∷ bytes) left = refl
+some_same : (n m : ℕ) → ◌≡◌ {A = rust.Option ℕ} (Some n) (Some m) → n ≡ m
+some_same n m e = cc
 
-  module _ (n : ℕ) (some_left : length rest ≡ 0 → ⊥) (is-length : n ≡ length_of (kind_of (get_or rest 0 0))) where
-    pub unknown_code : n ≡ 0 → refused 12 ≡ read_command first rest
-    unknown_code none-known = go (kind_of (get_or rest 0 0)) refl
-      where
-        go : (found : Option Kind) → kind_of (get_or rest 0 0) ≡ found → refused 12 ≡ read_command first rest
-        go none e = sym (reads_code some_left ∙ rw e)
-        go (some k) e = let at_least_lem : n ≡ 1 + widths (row k).operands = is-length ∙ rw e in absurd (omega arith)
-
-    -- A length above 0 is that of a known kind.
-    known : {A : Type 0} → (n ≡ 0 → ⊥)
-        → ((k : Kind) → kind_of (get_or rest 0 0) ≡ some k → n ≡ 1 + widths (row k).operands → A) → A
-    known above at-known = by_option (kind_of (get_or rest 0 0))
-        (λ e. absurd (above (is-length ∙ rw e)))
-        (λ k e. at-known k e (is-length ∙ rw e))
-
-    module _ (above : n ≡ 0 → ⊥) {place : Bool} (says : PlaceSays (get_or rest 0 0) first place) where
-      pub misplaced : place ≡ true → refused 14 ≡ read_command first rest
-      misplaced t = known above (λ k e is_n.
-          sym (reads_code some_left
-          ∙ rw e (reads_out_of_place first k (drop 1 rest) (sym (says.place_is k e) ∙ t))))
-
-      pub cut_short : place ≡ false → length rest < n → refused 13 ≡ read_command first rest
-      cut_short t short = known above (λ k e is_n.
-          sym (reads_code some_left
-          ∙ rw e (reads_cut_short first k (drop 1 rest) (sym (says.place_is k e) ∙ t)
-          (omega (arith, length-drop 1 rest)))))
-
-      -- The bytes that follow the code, as they are lent.
-      module _ (operands : List ℕ) (follow : operands ≡ drop 1 rest) (long : n ≤ length rest) where
-        pub enough : Enough (get_or rest 0 0) operands
-        enough = record {
-          within = λ k found.
-              let is_n : n ≡ 1 + widths (row k).operands = is-length ∙ rw found in
-              omega (arith, length-drop 1 rest, ap length follow);
-        }
-
-        pub whole : place ≡ false → (c : enum.Command) → CommandSays (get_or rest 0 0) operands c
-            → taken (command_in c) n ≡ read_command first rest
-        whole t c is-command = known above (λ k e is_n.
-            sym (reads_code some_left
-            ∙ rw e (reads_taken first k (drop 1 rest) (sym (says.place_is k e) ∙ t)
-            (omega (arith, length-drop 1 rest))
-            ∙ rw (is-command.command_is k e, follow, is_n))))
+pub takes : (first : Bool) (code n : ℕ) (operands : List ℕ) (c : enum.Command)
+    → Some n ≡ length_of (kind_of code) → PlaceSays code first false → n ≤ length (code ∷ operands)
+    → CommandSays code operands c
+    → taken (command_in c) n ≡ read_command first (code ∷ operands)
+takes first code n operands c known in_place long is-command = by_option (kind_of code)
+    (λ e. absurd (some_not_none n (known ∙ ap length_of e)))
+    (λ k e.
+    let is_n : n ≡ 1 + widths (row k).operands = some_same n _ (known ∙ ap length_of e) in
+    sym (ap (λ (found : Option Kind). read_code first found operands) e
+    ∙ reads_taken first k operands (sym (in_place.place_is k e)) (omega (arith, is_n, long))
+    ∙ rw (is-command.command_is k e, is_n)))

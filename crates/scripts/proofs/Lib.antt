@@ -1,7 +1,5 @@
--- Proofs of scripts: the reader's answers, the judge's turns, the writer.
+-- Proofs of scripts: the reader's answer, the judge's turns, and that what is written reads back.
 pub mod Parts
 pub mod Answers
 pub mod Turns
-pub mod Writing
--- What is written reads back.
 pub mod Back

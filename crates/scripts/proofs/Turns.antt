@@ -1,5 +1,6 @@
 -- One turn of the judge: before it, the whole script has the number and the offset of the script from its place on. A
 -- refusal there is the script's, a command moves the place on by its length, and after the end comes nothing or 15.
+use Rattle.std.specs.Prelude.{⊤, Result, Ok, Err}
 use mathlib.Core.Path.{◌≡◌, refl, sym, ap, ◌∙◌}
 use mathlib.Core.Bool.{Bool, true, false}
 use mathlib.Core.List.{List, [], ◌∷◌}
@@ -10,7 +11,10 @@ use lib.Seq.{drop-drop}
 use Rattle.script_commands.specs.Commands.{Command, is_end}
 use Rattle.script_commands.specs.Scripts.{refused, taken, read_command, Script, after_end, with_command, judge_from, judge}
 use Rattle.script_commands.proofs.Judging.{moves-on, judged_refused, judged_end, judged_on, judged_from_start}
-use Rattle.scripts.specs.Says.{ScriptJudged}
+use Rattle.scripts.specs.declared.Fault.{Fault}
+use Rattle.scripts.specs.declared.Refusal.{Refusal}
+use Rattle.scripts.specs.declared.Refusal.TheVariants.{WrongEnd}
+use Rattle.scripts.specs.Says.{number_of, fault_number_in, fault_offset_in, ScriptJudged}
 
 -- A place up to which a script has been judged, and whether its command is to be the first.
 pub record JudgedTo (script : List ℕ) (at : ℕ) (first : Bool) : Type 0 where
@@ -38,16 +42,18 @@ bytes-follow at (x ∷ bytes) h = refl
 
 module _ {script : List ℕ} {at : ℕ} {first : Bool} (w : JudgedTo script at first) where
   -- What the script from the place on is judged, the whole script is.
-  judged_so : {s : Script} → judge_from first at (drop at script) ≡ s
-      → ScriptJudged script (record { number = s.number; offset = s.offset })
-  judged_so e = record {
+  judged_so : (r : Result ⊤ Fault) {commands : List Command}
+      → judge_from first at (drop at script)
+      ≡ record { commands = commands; number = fault_number_in r; offset = fault_offset_in r }
+      → ScriptJudged script r
+  judged_so r e = record {
     number_is = sym (w.number_is ∙ ap (λ (s : Script). s.number) e);
     offset_is = sym (w.offset_is ∙ ap (λ (s : Script). s.offset) e);
   }
 
-  pub judge-refuses : {number : ℕ} → refused number ≡ read_command first (drop at script)
-      → ScriptJudged script (record { number = number; offset = at })
-  judge-refuses {number} e = judged_so (judged_refused first at (drop at script) number (sym e))
+  pub judge-refuses : {e : Refusal} → refused (number_of e) ≡ read_command first (drop at script)
+      → ScriptJudged script (Err (record { refusal = e; offset = at }))
+  judge-refuses {e} says = judged_so _ (judged_refused first at (drop at script) (number_of e) (sym says))
 
   module _ {c : Command} {n : ℕ} (e : taken c n ≡ read_command first (drop at script)) where
     pub judge-goes_on : is_end c.kind ≡ false → JudgedTo script (at + n) false
@@ -66,12 +72,12 @@ module _ {script : List ℕ} {at : ℕ} {first : Bool} (w : JudgedTo script at f
       ended : judge_from first at (drop at script) ≡ with_command c (after_end (at + n) (drop n (drop at script)))
       ended = judged_end first at (drop at script) c n (sym e) t
 
-      pub judge-ends : length script ≤ at + n → ScriptJudged script (record { number = 0; offset = 0 })
+      pub judge-ends : length script ≤ at + n → ScriptJudged script (Ok tt)
       judge-ends done =
-          judged_so
+          judged_so _
           (ended ∙ ap (with_command c) (nothing-follows (at + n) (drop n (drop at script)) (omega (arith, left_after))))
 
-      pub judge-follows : at + n < length script → ScriptJudged script (record { number = 15; offset = at + n })
+      pub judge-follows : at + n < length script → ScriptJudged script (Err (record { refusal = WrongEnd; offset = at + n }))
       judge-follows more =
-          judged_so
+          judged_so _
           (ended ∙ ap (with_command c) (bytes-follow (at + n) (drop n (drop at script)) (omega (arith, left_after))))

@@ -3,79 +3,83 @@
 
 ghost use Rattle.std.specs.Prelude.{◌≡◌};
 ghost use Rattle.script_commands.specs.Scripts.{read_command};
-ghost use Rattle.scripts.specs.Says.{reading_in, ScriptJudged, CommandWritten};
+ghost use Rattle.scripts.specs.Says.{number_of, reading_in, ScriptJudged, CommandWritten};
 ghost use Rattle.scripts.specs.Back.{ReadBack};
 
 use script_commands::Command;
 
-// What the reader answers: the command and how many bytes it has, or the refusal's number.
-#[derive(Drop)]
-pub enum Reading {
-    Taken(Command, usize),
-    Refused(u8),
+// Why a script is refused, or a command is not written, with the paper's numbers.
+#[derive(Clone, Copy, Debug, PartialEq, Eq)]
+pub enum Refusal {
+    // No command has this code.
+    UnknownCode = 12,
+    // The bytes run out before the command's operands do.
+    CutShort = 13,
+    // The first command is not sizes, or sizes come again.
+    OutOfPlace = 14,
+    // The bytes run out where a command is due, or follow the end.
+    WrongEnd = 15,
+    // The command does not fit where it is to be written.
+    DoesNotFit = 16,
 }
 
-// A script judged: 0, or the number of its first fault and the offset of its place.
-#[derive(Drop)]
-pub struct Judged {
-    pub number: u8,
+impl From<Refusal> for u8 {
+    ghost from_gives = { λ refusal number. number ≡ number_of refusal };
+
+    fn from(refusal: Refusal) -> u8 {
+        refusal as u8
+    }
+}
+
+// The first fault of a script, and the offset of its place.
+#[derive(Clone, Copy, Debug, PartialEq, Eq)]
+pub struct Fault {
+    pub refusal: Refusal,
     pub offset: usize,
 }
 
-// A command written: 0 and how many bytes it has, or 16 and 0.
-#[derive(Drop)]
-pub struct Written {
-    pub number: u8,
-    pub length: usize,
-}
-
-// One command from what is left of a script; `first` says whether it is to be the script's first. At a command byte 12
-// comes before 14, and 14 before 13.
-pub fn read(rest: &[u8], first: bool) -> Reading
+// One command from what is left of a script, and how many bytes it has; `first` says whether it is to be the script's
+// first. At a command byte 12 comes before 14, and 14 before 13.
+pub fn read(rest: &[u8], first: bool) -> Result<(Command, usize), Refusal>
     ensures { reading_in result ≡ read_command first rest.now }
 {
-    if rest.len() == 0 {
-        return Reading::Refused(15);
-    }
-    let code = rest[0];
-    let length = script_codes::command_length(code);
-    let misplaced = script_codes::out_of_place(code, first);
-    if length == 0 {
-        return Reading::Refused(12);
-    }
-    if misplaced {
-        return Reading::Refused(14);
+    let (&code, operands) = rest.split_first().ok_or(Refusal::WrongEnd)?;
+    let length = script_codes::command_length(code).ok_or(Refusal::UnknownCode)?;
+    if script_codes::out_of_place(code, first) {
+        return Err(Refusal::OutOfPlace);
     }
     if rest.len() < length {
-        return Reading::Refused(13);
+        return Err(Refusal::CutShort);
     }
-    Reading::Taken(script_codes::command_of(code, &rest[1..]), length)
+    Ok((script_codes::command_of(code, operands), length))
 }
 
 // A whole script, from command to command, before any slot runs.
-pub fn judge(script: &[u8]) -> Judged
+pub fn judge(script: &[u8]) -> Result<(), Fault>
     ensures { ScriptJudged script.now result }
 {
     let mut at = 0;
     let mut first = true;
+    // Commands differ in length, so that no iterator of the library goes over them.
     loop {
+        // Not `map_err` and `?`: the proof didn't close, since what a closure makes of the refusal isn't known behind it.
         match read(&script[at..], first) {
-            Reading::Refused(number) => {
-                return Judged { number, offset: at };
+            Err(refusal) => {
+                return Err(Fault {
+                    refusal,
+                    offset: at,
+                });
             }
-            Reading::Taken(command, length) => {
+            Ok((command, length)) => {
                 let next = at + length;
                 if script_codes::is_end(command) {
                     if next < script.len() {
-                        return Judged {
-                            number: 15,
+                        return Err(Fault {
+                            refusal: Refusal::WrongEnd,
                             offset: next,
-                        };
+                        });
                     }
-                    return Judged {
-                        number: 0,
-                        offset: 0,
-                    };
+                    return Ok(());
                 }
                 at = next;
                 first = false;
@@ -84,21 +88,17 @@ pub fn judge(script: &[u8]) -> Judged
     }
 }
 
-// A command written at the start of the output, or 16.
-pub fn write(command: Command, output: &mut [u8]) -> Written
+// A command written at the start of the output, and how many bytes it has.
+pub fn write(command: Command, output: &mut [u8]) -> Result<usize, Refusal>
     ensures { CommandWritten command output.old result output.new }
 {
-    let c = script_codes::encode(command);
-    let bytes = c.bytes;
-    let length = c.length;
-    if output.len() < length {
-        return Written {
-            number: 16,
-            length: 0,
-        };
+    let coded = script_codes::encode(command);
+    let bytes = coded.as_slice();
+    if output.len() < bytes.len() {
+        return Err(Refusal::DoesNotFit);
     }
-    script_codes::put(&bytes[..length], output);
-    Written { number: 0, length }
+    output[..bytes.len()].copy_from_slice(bytes);
+    Ok(bytes.len())
 }
 
 // What is written reads back, over calls of this crate, as a contract, so that it is proved with the code.

@@ -1,2 +1,2 @@
--- Laws of the sizing rule and the limits.
+-- A law of the sizing rule.
 pub mod Laws

@@ -1,58 +1,30 @@
 -- A state of which 3 and 2 are ruled out is ready for slots in place, with the counts that judging took.
-use mathlib.Core.Path.{◌≡◌, refl, ap, sym, ◌∙◌, subst}
-use mathlib.Core.Bool.{Bool, true, false}
+use mathlib.Core.Path.{◌≡◌, refl, sym, ◌∙◌, subst}
+use mathlib.Core.Bool.{true}
 use mathlib.Core.List.{List}
 use Prim.Native.Nat.{ℕ}
 use lib.ListN.{length}
-use Rattle.model.specs.Sizes.{paper_limits, accepts, paper}
+use Rattle.model.specs.Sizes.{paper}
 use Rattle.model.specs.State.{State, keeps}
 use Rattle.model.proofs.basics.Tests.{true_not_false}
-use Rattle.model.proofs.one_slot.Rules.{keeps-facts}
 use Rattle.layout.specs.declared.Regs.{Regs}
-use Rattle.layout.specs.Counts.{ByQueue, by_queue}
+use Rattle.std.specs.Prelude.{Some}
+use Rattle.layout.specs.declared.QueueCounts.{QueueCounts}
+use Rattle.layout.specs.Counts.{ByQueue, counts_of}
 use Rattle.layout.specs.Views.{Arrays, Long, sizes_in, state_in}
-use Rattle.slot_rules.specs.declared.RulesJudged.{RulesJudged}
 use Rattle.slot_rules.specs.Says.{RulesSays}
 use Rattle.slot_in_place.specs.Says.{Ready}
 use Rattle.slot_checked.specs.Says.{state_number, JudgeStateSays, CountsSay, judged_number, LeaveSays}
 use Rattle.slot_checked.proofs.Judging.{number_says, judged_state}
 
--- The number by the rules themselves.
-pub number_of_state : {x : State} {r : RulesJudged} {n : ℕ} (bytes : ℕ) → RulesSays x r
-    → n ≡ state_number r.kept x.sizes bytes → n ≡ state_number (keeps paper x) x.sizes bytes
-number_of_state {x} bytes says e = e ∙ ap (λ (kept : Bool). state_number kept x.sizes bytes) says.kept_is
-
--- The counts that judging took, by whether the rules are kept.
-module _ {x : State} {r : RulesJudged} (says : RulesSays x r) {before : ByQueue} where
-  pub counts_taken : r.kept ≡ true → CountsSay x x before (by_queue r.tails r.heads r.owing)
-  counts_taken t = record {
-    counted = λ kept. says.counted t;
-    as_given = λ broken. absurd (true_not_false (keeps paper x) (sym says.kept_is ∙ t) broken);
-  }
-
-  pub counts_left_lem : r.kept ≡ false → CountsSay x x before before
-  counts_left_lem f = record {
-    counted = λ kept. absurd (true_not_false (keeps paper x) kept (sym says.kept_is ∙ f));
-    as_given = λ broken. refl;
-  }
-
 module _ (regs : Regs) (m : Arrays) (store : List ℕ) where
-  pub sizes-kept : {r : RulesJudged} → RulesSays (state_in regs m) r → r.kept ≡ true
-      → accepts paper_limits (sizes_in regs) ≡ true
-  sizes-kept says t = (keeps-facts paper (state_in regs m) (sym says.kept_is ∙ t)).sizes-ok
-
-  pub judged : {r : RulesJudged} → RulesSays (state_in regs m) r → {n : ℕ}
-      → n ≡ state_number r.kept (sizes_in regs) (length store) → JudgeStateSays (state_in regs m) (length store) n
-  judged says e = number_says (state_in regs m) (length store) says.kept_is e
-
-  pub ready_judged : {r : RulesJudged} → RulesSays (state_in regs m) r → {n : ℕ}
-      → n ≡ state_number r.kept (sizes_in regs) (length store) → n ≡ 0 → Long m → Ready regs m
-      (by_queue r.tails r.heads r.owing) store
-  ready_judged says e z long =
-      let passed = (judged says e).passed z in record {
+  pub ready_judged : {counts : QueueCounts} → RulesSays (state_in regs m) (Some counts)
+      → 0 ≡ state_number true (sizes_in regs) (length store) → Long m → Ready regs m (counts_of counts) store
+  ready_judged says e long =
+      let passed = (number_says (state_in regs m) (length store) (sym says.0) e).passed refl in record {
         long = long;
         kept = passed.0;
-        tallies = says.counted (says.kept_is ∙ passed.0);
+        tallies = says.1;
         store_long = passed.1;
       }
 

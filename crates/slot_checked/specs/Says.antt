@@ -1,14 +1,16 @@
 -- What is decided of a slot, whatever the state and the store are, by the model's own slot.
-use Rattle.std.specs.Prelude.{◌≡◌, Bool, true, false, not, List, [], ◌∷◌, ℕ, ◌≤◌, ltb, length}
+use Rattle.std.specs.Prelude.{◌≡◌, Bool, true, false, not, List, [], ◌∷◌, ℕ, ◌≤◌, ltb, length, Result, IfOk}
 use Rattle.model.specs.Basics.{when, first_refusal}
 use Rattle.model.specs.Sizes.{Sizes, paper, store_bytes}
 use Rattle.model.specs.State.{State, keeps}
 use Rattle.model.specs.Slot.{Call, wrote, slots_to_refill, halves_taken, refuse, carried_out, slot}
-use Rattle.layout.specs.Calls.{chosen_in, call_in}
+use Rattle.layout.specs.Calls.{chosen_in, refill_in, call_in, number_in}
+use Rattle.layout.specs.declared.Refusal.{Refusal}
 use Rattle.layout.specs.Counts.{ByQueue, Tallies}
 use Rattle.layout.specs.declared.Regs.{Regs}
 use Rattle.layout.specs.Views.{Arrays, sizes_in, state_in}
 use Rattle.slot_plan.specs.declared.Plan.{Plan}
+use Rattle.slot_plan.specs.Says.{arrival_number_of, request_number_of}
 use Rattle.slot_in_place.specs.Says.{Decided, Ready}
 
 -- 3 and 2, in this order, by whether the rules are kept.
@@ -39,17 +41,19 @@ pub record LeaveSays (regs : Regs) (m : Arrays) (counts : ByQueue) (store : List
   pub ready : judged_number regs m store ≡ 0 → Ready regs' m' counts' store'
   pub counts_are : CountsSay (state_in regs m) (state_in regs' m') counts counts'
 
+-- A plan of a slot that is not refused, whatever bytes the store holds.
+pub record IsPlanChecked (x : State) (bytes : ℕ) (call : Call) (p : Plan) : Type 0 where
+  pub decided : (store : List ℕ) → length store ≡ bytes
+      → Decided x store (call_in p.call) p.owes p.swaps (chosen_in p.written) (refill_in p.refill).queue
+  pub slots_left_is : (refill_in p.refill).slots_left ≡ slots_to_refill (wrote x (call_in p.call))
+  pub left_is : call_in p.call ≡ halves_taken x call
+  pub carries : (store : List ℕ) → length store ≡ bytes
+      → carried_out (arrival_number_of p) (request_number_of p) x store (call_in p.call)
+      ≡ slot paper x store call
+
 -- What a slot will do, of any state and any store of so many bytes: the number that it answers, and where that is 0 all
 -- that is decided of it, and that the slot is what is carried out of the halves that it takes. No byte of the store has
 -- a say in it.
-pub record PlanCheckedSays (x : State) (bytes : ℕ) (call : Call) (r : Plan) : Type 0 where
-  pub number_is : (store : List ℕ) → length store ≡ bytes → r.number ≡ (slot paper x store call).reply.number
-  pub decided : r.number ≡ 0 → (store : List ℕ) → length store ≡ bytes
-      → Decided x store (call_in r.arrival r.request) r.owes r.swaps (chosen_in r.written)
-      (chosen_in r.refill.queue)
-  pub slots_left_is : r.number ≡ 0
-      → r.refill.slots_left ≡ slots_to_refill (wrote x (call_in r.arrival r.request))
-  pub left_is : r.number ≡ 0 → call_in r.arrival r.request ≡ halves_taken x call
-  pub carries : r.number ≡ 0 → (store : List ℕ) → length store ≡ bytes
-      → carried_out r.arrival_number r.request_number x store (call_in r.arrival r.request)
-      ≡ slot paper x store call
+pub record PlanCheckedSays (x : State) (bytes : ℕ) (call : Call) (r : Result Plan Refusal) : Type 0 where
+  pub number_is : (store : List ℕ) → length store ≡ bytes → number_in r ≡ (slot paper x store call).reply.number
+  pub plan_is : IfOk r (λ p. IsPlanChecked x bytes call p)

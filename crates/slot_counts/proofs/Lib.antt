@@ -2,9 +2,9 @@
 
 -- The counts of a state, taken.
 pub mod Taking
--- One count changed, and what each step makes of it.
+-- One count changed, as each step of a slot changes one or none.
 pub mod Changes
--- All steps of a slot.
+-- The tail bytes after the first two steps.
 pub mod Steps
 -- The counts of the model's state.
 pub mod Kept

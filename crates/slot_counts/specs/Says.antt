@@ -8,11 +8,10 @@ use Rattle.model.specs.Slot.{Call, arriving}
 use Rattle.layout.specs.declared.Regs.{Regs}
 use Rattle.layout.specs.Lengths.{tail_places, head_places, cell_places, queue_places}
 use Rattle.layout.specs.Entries.{bytes_in, cells_in, counts_in}
-use Rattle.layout.specs.Counts.{ByQueue, by_queue, CountsAre, Tally, TallyOwed}
+use Rattle.layout.specs.Counts.{ByQueue, CountsAre, Tally, TallyOwed}
 use Rattle.layout.specs.Views.{sizes_in}
 use Rattle.layout.specs.Figures.{new_cell}
 use Rattle.lookahead.specs.Says.{spent}
-use Rattle.slot_counts.specs.declared.Counts.{Counts}
 
 -- What counting asks: accepted sizes, fills within their arrays, queue numbers that have a place.
 pub record Countable (regs : Regs) (tail head cells : List ℕ) : Type 0 where
@@ -25,9 +24,6 @@ pub record Countable (regs : Regs) (tail head cells : List ℕ) : Type 0 where
   pub tail_known : all_of (byte_below queue_places) (bytes_in regs.tail_fill tail) ≡ true
   pub head_known : all_of (byte_below queue_places) (bytes_in regs.head_fill head) ≡ true
   pub cells_known : all_of (cell_below queue_places) (cells_in (lookahead (sizes_in regs)) cells) ≡ true
-
-abbrev pub counts_of : Counts → ByQueue
-counts_of r = by_queue r.tails r.heads r.owing
 
 pub record TakeSays (regs : Regs) (tail head cells : List ℕ) (counts : ByQueue) : Type 0 where
   pub tails_are : Tally counts.tails (bytes_in regs.tail_fill tail)

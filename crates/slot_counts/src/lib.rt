@@ -2,129 +2,92 @@
 // no slot counts again.
 #![tactic(auto)]
 
-ghost use Rattle.std.specs.Prelude.{◌≡◌, true, false, ℕ, ◌≤◌, ◌<◌, length};
+ghost use Rattle.std.specs.Prelude.{◌≡◌, true, false, ℕ, ◌≤◌, ◌<◌};
 ghost use Rattle.std.proofs.Math.Option.{some};
 ghost use Rattle.model.specs.Sizes.{paper_limits, accepts};
-ghost use Rattle.model.specs.State.{Byte, owed};
+ghost use Rattle.model.specs.State as state;
+ghost use Rattle.model.specs.State.{owed};
 ghost use Rattle.layout.specs.Lengths.{tail_places, head_places, cell_places, queue_places};
 ghost use Rattle.layout.specs.Entries.{counts_in, cell_of};
 ghost use Rattle.layout.specs.Calls.{chosen_in, arrival_in, request_in, call_in};
-ghost use Rattle.layout.specs.Counts.{CountsAre};
+ghost use Rattle.layout.specs.Counts.{CountsAre, counts_of};
 ghost use Rattle.layout.specs.Lent.{counts_found, counts_left};
 ghost use Rattle.layout.specs.Views.{sizes_in};
-ghost use Rattle.slot_counts.specs.Says.{counts_of, Countable, TakeSays, arrival_counted, less_taken, with_owed};
+ghost use Rattle.slot_counts.specs.Says.{Countable, TakeSays, arrival_counted, less_taken, with_owed};
 ghost use Rattle.slot_counts.specs.Says.{less_block, with_block, tails_asked, TurnSays};
 
-use layout::{Arrival, CellArray, Chosen, CountArray, HeadArray, Regs, Request, TailArray};
-
-// Counts by queue: tail bytes, head bytes, Owed cells.
-#[derive(Drop)]
-pub struct Counts {
-    pub tails: CountArray,
-    pub heads: CountArray,
-    pub owing: CountArray,
-}
+use layout::{Byte, Call, CellArray, CountArray, HeadArray, QueueCounts, Regs, TailArray};
 
 // The counts of a state whose queue numbers have a place, taken once for many slots.
-pub fn take<'a>(
-    tail: &'a TailArray,
-    head: &'a HeadArray,
-    cells: &'a CellArray,
-    regs: Regs,
-) -> Counts
+pub fn take(tail: &TailArray, head: &HeadArray, cells: &CellArray, regs: Regs) -> QueueCounts
     requires { Countable regs tail.now head.now cells.now }
     ensures { TakeSays regs tail.now head.now cells.now (counts_of result) }
 {
-    let tails = caches::tally(tail, regs.tail_fill);
-    let heads = caches::tally(head, regs.head_fill);
-    let owing = lookahead::tally_owed(cells, regs.queues * (regs.block - 1) + 1);
-    Counts {
-        tails: tails,
-        heads: heads,
-        owing: owing,
+    QueueCounts {
+        tails: caches::tally(tail, regs.tail_fill),
+        heads: caches::tally(head, regs.head_fill),
+        owing: lookahead::tally_owed(cells, regs.queues * (regs.block - 1) + 1),
     }
 }
 
 // The arriving byte adds one to its queue's tail bytes.
-pub fn arrived(tails: &mut CountArray, arrival: Arrival)
-    requires { (length tails.old ≡ queue_places) × ((q : ℕ) → counts_in tails.old q ≤ head_places)
-        × ((y : Byte) → arrival_in arrival ≡ some y → y.queue < queue_places) }
+pub fn arrived(tails: &mut CountArray, arrival: Option<Byte>)
+    requires { ((q : ℕ) → counts_in tails.old q ≤ head_places)
+        × ((y : state.Byte) → arrival_in arrival ≡ some y → y.queue < queue_places) }
     ensures { CountsAre tails.new
         (arrival_counted (arrival_in arrival) (counts_in tails.old)) }
 {
-    match arrival {
-        Arrival::NoArrival => {}
-        Arrival::Comes(queue, value) => {
-            let q = queue as usize;
-            tails[q] = tails[q] + 1;
-        }
+    if let Some(byte) = arrival {
+        tails[byte.queue as usize] += 1;
     }
 }
 
 // A request that takes a tail byte takes one from its queue's tail bytes.
-pub fn taken(tails: &mut CountArray, owes: bool, request: Request)
-    requires { (length tails.old ≡ queue_places)
-        × ((q : ℕ) → request_in request ≡ some q → owes ≡ false → (q < queue_places) × (1 ≤ counts_in tails.old q)) }
+pub fn taken(tails: &mut CountArray, owes: bool, request: Option<u8>)
+    requires { (q : ℕ) → request_in request ≡ some q → owes ≡ false
+        → (q < queue_places) × (1 ≤ counts_in tails.old q) }
     ensures { CountsAre tails.new
         (less_taken owes (request_in request) (counts_in tails.old)) }
 {
-    match request {
-        Request::NoRequest => {}
-        Request::Asks(queue) => {
-            if owes {
-                return;
-            }
-            let q = queue as usize;
-            tails[q] = tails[q] - 1;
-        }
+    if let Some(queue) = request
+        && !owes
+    {
+        tails[queue as usize] -= 1;
     }
 }
 
 // A request that takes an Owed cell adds one to its queue's Owed cells.
-fn asked(owing: &mut CountArray, owes: bool, request: Request)
-    requires { (length owing.old ≡ queue_places) × ((q : ℕ) → counts_in owing.old q ≤ head_places)
+fn asked(owing: &mut CountArray, owes: bool, request: Option<u8>)
+    requires { ((q : ℕ) → counts_in owing.old q ≤ head_places)
         × ((q : ℕ) → request_in request ≡ some q → owes ≡ true → q < queue_places) }
     ensures { CountsAre owing.new
         (with_owed owes (request_in request) (counts_in owing.old)) }
 {
-    match request {
-        Request::NoRequest => {}
-        Request::Asks(queue) => {
-            if owes {
-                let q = queue as usize;
-                owing[q] = owing[q] + 1;
-            }
-        }
+    if let Some(queue) = request
+        && owes
+    {
+        owing[queue as usize] += 1;
     }
 }
 
 // The block that is written leaves its queue's tail bytes.
-fn wrote(tails: &mut CountArray, written: Chosen, b: u16)
-    requires { (length tails.old ≡ queue_places)
-        × ((q : ℕ) → chosen_in written ≡ some q → (q < queue_places) × (b ≤ counts_in tails.old q)) }
+fn wrote(tails: &mut CountArray, written: Option<u8>, b: u16)
+    requires { (q : ℕ) → chosen_in written ≡ some q → (q < queue_places) × (b ≤ counts_in tails.old q) }
     ensures { CountsAre tails.new (less_block b (chosen_in written) (counts_in tails.old)) }
 {
-    match written {
-        Chosen::Nothing => {}
-        Chosen::Queue(queue) => {
-            let q = queue as usize;
-            tails[q] = tails[q] - b;
-        }
+    if let Some(queue) = written {
+        tails[queue as usize] -= b;
     }
 }
 
 // The block that is read joins its queue's head bytes.
-fn refilled(heads: &mut CountArray, chosen: Chosen, b: u16)
-    requires { (length heads.old ≡ queue_places) × ((q : ℕ) → counts_in heads.old q ≤ head_places) × (b ≤ 128)
+fn refilled(heads: &mut CountArray, chosen: Option<u8>, b: u16)
+    requires { ((q : ℕ) → counts_in heads.old q ≤ head_places) × (b ≤ 128)
         × ((q : ℕ) → chosen_in chosen ≡ some q → q < queue_places) }
     ensures { CountsAre heads.new (with_block b (chosen_in chosen) (counts_in heads.old)) }
 {
-    match chosen {
-        Chosen::Nothing => {}
-        Chosen::Queue(queue) => {
-            let q = queue as usize;
-            heads[q] = heads[q] + b;
-        }
+    if let Some(queue) = chosen {
+        heads[queue as usize] += b;
     }
 }
 
@@ -135,33 +98,31 @@ pub fn turn(
     owing: &mut CountArray,
     regs: Regs,
     cell: u32,
-    arrival: Arrival,
-    request: Request,
+    call: Call,
     owes: bool,
-    written: Chosen,
-    read: Chosen,
+    written: Option<u8>,
+    read: Option<u8>,
 )
     requires { (accepts paper_limits (sizes_in regs) ≡ true)
-        × (length tails.old ≡ queue_places) × (length heads.old ≡ queue_places) × (length owing.old ≡ queue_places)
         × ((q : ℕ) → counts_in tails.old q ≤ tail_places) × ((q : ℕ) → counts_in heads.old q ≤ head_places)
         × ((q : ℕ) → counts_in owing.old q ≤ cell_places)
         × ((q : ℕ) → cell_of cell ≡ owed q
         → (q < queue_places) × (1 ≤ counts_in heads.old q) × (1 ≤ counts_in owing.old q))
-        × ((y : Byte) → arrival_in arrival ≡ some y → y.queue < queue_places)
-        × ((q : ℕ) → request_in request ≡ some q → q < queue_places)
-        × ((q : ℕ) → request_in request ≡ some q → owes ≡ false
-        → 1 ≤ arrival_counted (arrival_in arrival) (counts_in tails.old) q)
+        × ((y : state.Byte) → arrival_in call.arrival ≡ some y → y.queue < queue_places)
+        × ((q : ℕ) → request_in call.request ≡ some q → q < queue_places)
+        × ((q : ℕ) → request_in call.request ≡ some q → owes ≡ false
+        → 1 ≤ arrival_counted (arrival_in call.arrival) (counts_in tails.old) q)
         × ((q : ℕ) → chosen_in written ≡ some q
-        → (q < queue_places) × (regs.block ≤ tails_asked owes (call_in arrival request) (counts_in tails.old) q))
+        → (q < queue_places) × (regs.block ≤ tails_asked owes (call_in call) (counts_in tails.old) q))
         × ((q : ℕ) → chosen_in read ≡ some q → q < queue_places) }
-    ensures { TurnSays (sizes_in regs) (cell_of cell) (call_in arrival request) owes (chosen_in written)
+    ensures { TurnSays (sizes_in regs) (cell_of cell) (call_in call) owes (chosen_in written)
         (chosen_in read) (counts_found tails heads owing) (counts_left tails heads owing) }
 {
     lookahead::spend(heads, cell);
     lookahead::spend(owing, cell);
-    arrived(tails, arrival);
-    taken(tails, owes, request);
-    asked(owing, owes, request);
+    arrived(tails, call.arrival);
+    taken(tails, owes, call.request);
+    asked(owing, owes, call.request);
     wrote(tails, written, regs.block as u16);
     refilled(heads, read, regs.block as u16);
 }

@@ -51,4 +51,4 @@ pub record AdvanceSays (x : State) (store : List ℕ) (call : Call) (r : Advance
 
 -- On a refusal the registers and the arrays are as they came, places past a fill included.
 abbrev pub AsGiven : Regs → Arrays → Advanced → Arrays → Type 0
-AsGiven regs m r m' = (r.reply.number ≡ 0 → ⊥) → (r.regs ≡ regs) × (m' ≡ m)
+AsGiven regs m r m' = ((reply_in r.reply).number ≡ 0 → ⊥) → (r.regs ≡ regs) × (m' ≡ m)

@@ -2,8 +2,11 @@
 use mathlib.Core.Path.{◌≡◌, refl, ap, sym, ◌∙◌, subst}
 use mathlib.Core.Bool.{Bool, true, false}
 use mathlib.Core.List.{List, [], ◌∷◌}
-use mathlib.Core.Option.{Option, some, none}
-use Prim.Native.Nat.{ℕ, ◌≤◌, ◌<◌}
+use mathlib.Core.Option as math
+use mathlib.Core.Option.{some, none}
+use Rattle.std.specs.Prelude.{Option, Result, Ok, Err, IsErrAnd}
+use Rattle.std.proofs.lemmas.Result.{IfOk-weaker}
+use Prim.Native.Nat.{ℕ, zero, suc, ◌≤◌, ◌<◌}
 use native.Mathlib.Omega.{arith}
 use lib.Dec.{eqb, leb}
 use lib.ListN.{get_or}
@@ -15,8 +18,10 @@ use Rattle.model.proofs.basics.Tests.{by_test, positive, none_not_some, true_not
 use Rattle.model.proofs.basics.FirstRefusal.{no_refusal_at, when-zero}
 use Rattle.layout.specs.Counts.{by_queue}
 use Rattle.model.proofs.basics.Bytes.{count_one_same}
-use Rattle.layout.specs.declared.Chosen.{Chosen}
 use Rattle.layout.specs.declared.Refill as code
+use Rattle.layout.specs.declared.Refusal.{Refusal}
+use Rattle.layout.specs.declared.Refusal.TheVariants as because
+use Rattle.layout.proofs.Refusals.{refusal_is_some}
 use Rattle.layout.specs.Entries.{counts_in}
 use Rattle.layout.specs.Calls.{chosen_in, arrival_in, request_in, refill_in, call_in}
 use Rattle.layout.specs.declared.Regs.{Regs}
@@ -27,9 +32,13 @@ use Rattle.slot_plan.specs.declared.Plan.{Plan}
 use Rattle.slot_refusals.specs.declared.Verdict.{Verdict}
 use Rattle.slot_refusals.specs.Says.{arrival_number, arrives_at, request_number, leaving_number, tail_number}
 use Rattle.slot_refusals.specs.Says.{owes_now, swaps_now, arrival_left, request_left, arrival_found, request_found, left_now}
-use Rattle.slot_refusals.specs.Says.{early_number, EarlySays, full_now}
+use Rattle.slot_refusals.specs.Says.{early_number, IsVerdict, EarlySays, full_now}
 use Rattle.slot_plan.specs.Says.{write_now, read_now, left_of, PlanSays}
-use Rattle.slot_refusals.proofs.Firsts.{first_here}
+
+-- The first of a list that is a refusal.
+first_here : (n : ℕ) (ns : List ℕ) → (n ≡ 0 → ⊥) → n ≡ first_refusal (n ∷ ns)
+first_here zero ns h = absurd (h refl)
+first_here (suc n) ns h = refl
 
 -- A request that takes an Owed cell is of a queue below the last.
 owes-below : (f : Figures) (q : ℕ) → owes_now f (some q) ≡ true → q < f.sizes.Q
@@ -39,13 +48,13 @@ owes-below f q e =
     (λ t. leb-false f.sizes.Q q t)
 
 -- What is left of a half is the half, and it was not dropped.
-arrival-came : (n : ℕ) (arrival : Option Byte) (y : Byte) → arrival_left n arrival ≡ some y → arrival ≡ some y
+arrival-came : (n : ℕ) (arrival : math.Option Byte) (y : Byte) → arrival_left n arrival ≡ some y → arrival ≡ some y
 arrival-came n arrival y e =
     by_test (eqb n 5)
     (λ t. absurd (none_not_some y (sym (ap (λ (b : Bool). choose b none arrival) t) ∙ e)))
     (λ t. sym (ap (λ (b : Bool). choose b none arrival) t) ∙ e)
 
-request-came : (n : ℕ) (request : Option ℕ) (q : ℕ) → request_left n request ≡ some q
+request-came : (n : ℕ) (request : math.Option ℕ) (q : ℕ) → request_left n request ≡ some q
     → (request ≡ some q) × (n ≡ 7 → ⊥)
 request-came n request q e =
     by_test (eqb n 7)
@@ -61,7 +70,7 @@ arrival-below f swapping y n =
     (λ t. absurd (n (rw t)))
     (λ t. leb-false f.sizes.Q y.queue t)
 
-found-or_arrives : (arrival : Option Byte) (tails : ℕ → ℕ) (q : ℕ)
+found-or_arrives : (arrival : math.Option Byte) (tails : ℕ → ℕ) (q : ℕ)
     → (choose (arrives_at arrival q) 0 (when (eqb (tails q) 0) 7) ≡ 7 → ⊥) → 1 ≤ arrival_counted arrival tails q
 found-or_arrives none tails q n =
     omega (
@@ -76,7 +85,7 @@ found-or_arrives (some y) tails q n =
       positive (tails q) (λ z. n (rw (t, eq-eqb (tails q) 0 z))),
     ))
 
-request-finds : (f : Figures) (arrival : Option Byte) (q : ℕ) → (request_number f false arrival (some q) ≡ 6 → ⊥)
+request-finds : (f : Figures) (arrival : math.Option Byte) (q : ℕ) → (request_number f false arrival (some q) ≡ 6 → ⊥)
     → (request_number f false arrival (some q) ≡ 7 → ⊥)
     → (q < f.sizes.Q) × (1 ≤ arrival_counted arrival f.tails q)
 request-finds f arrival q six seven =
@@ -88,7 +97,7 @@ request-finds f arrival q six seven =
     ))
 
 -- Whether a request takes an Owed cell needs no tail bytes.
-owes-without_tails : (regs : Regs) (tails heads owing stored : List ℕ) (request : Option ℕ)
+owes-without_tails : (regs : Regs) (tails heads owing stored : List ℕ) (request : math.Option ℕ)
     → owes_now (figures_in regs (by_queue [] heads owing) stored) request
     ≡ owes_now (figures_in regs (by_queue tails heads owing) stored) request
 owes-without_tails regs tails heads owing stored none = refl
@@ -102,71 +111,112 @@ module _ (regs : Regs) (tails heads owing stored : List ℕ) (owes : Bool) (cell
   abbrev all : Figures
   all = figures_in regs (by_queue tails heads owing) stored
 
-  abbrev with : Option Byte → Option ℕ → Call
+  abbrev with : math.Option Byte → math.Option ℕ → Call
   with arrival request = record { arrival = arrival; request = request }
 
-  early_alike : (arrival : Option Byte) (request : Option ℕ)
+  early_alike : (arrival : math.Option Byte) (request : math.Option ℕ)
       → early_number few owes cell (with arrival request) ≡ early_number all owes cell (with arrival request)
   early_alike none none = refl
   early_alike none (some q) = refl
   early_alike (some y) none = refl
   early_alike (some y) (some q) = refl
 
-  arrival-alike : (arrival : Option Byte) (request : Option ℕ)
+  arrival-alike : (arrival : math.Option Byte) (request : math.Option ℕ)
       → arrival_found few owes (with arrival request) ≡ arrival_found all owes (with arrival request)
   arrival-alike none request = refl
   arrival-alike (some y) request = refl
 
-  request-alike : (arrival : Option Byte) (request : Option ℕ)
+  request-alike : (arrival : math.Option Byte) (request : math.Option ℕ)
       → request_found few owes (with arrival request) ≡ request_found all owes (with arrival request)
   request-alike none none = refl
   request-alike none (some q) = refl
   request-alike (some y) none = refl
   request-alike (some y) (some q) = refl
 
-  swaps-alike : (arrival : Option Byte) (request : Option ℕ)
+  swaps-alike : (arrival : math.Option Byte) (request : math.Option ℕ)
       → swaps_now few owes arrival request ≡ swaps_now all owes arrival request
   swaps-alike none request = refl
   swaps-alike (some y) request = refl
 
-  judged_alike : (call : Call) {v : Verdict} → EarlySays few owes cell call v → EarlySays all owes cell call v
-  judged_alike call judged = record {
-    number_is = judged.number_is ∙ early_alike call.arrival call.request;
-    arrival-number_is = λ z. judged.arrival-number_is z ∙ arrival-alike call.arrival call.request;
-    request-number_is = λ z. judged.request-number_is z ∙ request-alike call.arrival call.request;
-    left_is = λ z.
-        judged.left_is z
+  verdict_alike : (call : Call) (v : Verdict) → IsVerdict few owes call v → IsVerdict all owes call v
+  verdict_alike call v judged = record {
+    arrival-number_is = judged.arrival-number_is ∙ arrival-alike call.arrival call.request;
+    request-number_is = judged.request-number_is ∙ request-alike call.arrival call.request;
+    left_is =
+        judged.left_is
         ∙ ap (λ (n : ℕ).
         with (arrival_left n call.arrival) (request_left (request_found few owes call) call.request))
         (arrival-alike call.arrival call.request)
         ∙ ap (λ (n : ℕ).
         with (arrival_left (arrival_found all owes call) call.arrival) (request_left n call.request))
         (request-alike call.arrival call.request);
-    swaps-is = λ z. judged.swaps-is z ∙ swaps-alike call.arrival call.request;
+    swaps-is = judged.swaps-is ∙ swaps-alike call.arrival call.request;
   }
 
--- What the code has found: the oldest cell, whether the request takes an Owed cell, and the early verdict.
+  judged_alike : (call : Call) {r : Result Verdict Refusal} → EarlySays few owes cell call r
+      → EarlySays all owes cell call r
+  judged_alike call {r} judged = record {
+    number_is = judged.number_is ∙ early_alike call.arrival call.request;
+    verdict_is = IfOk-weaker r (IsVerdict few owes call) (IsVerdict all owes call) (verdict_alike call) judged.verdict_is;
+  }
+
+-- What the code has found: the oldest cell, whether the request takes an Owed cell, and what is judged early.
 module _ (regs : Regs) (tails heads owing stored : List ℕ) (cells : List Cell) (call : Call)
     {cell : Cell} (cell_is : oldest_cell cells ≡ cell)
-    {owes : Bool} (owes_is : owes ≡ owes_now (figures_in regs (by_queue [] heads owing) stored) call.request)
-    (v : Verdict)
-    (judged : EarlySays (figures_in regs (by_queue tails heads []) stored) owes cell call v) where
+    {owes : Bool} (owes_is : owes ≡ owes_now (figures_in regs (by_queue [] heads owing) stored) call.request) where
   abbrev f : Figures
   f = figures_in regs (by_queue tails heads owing) stored
 
   owes-found : owes ≡ owes_now f call.request
   owes-found = owes_is ∙ owes-without_tails regs tails heads owing stored call.request
 
-  by_all : EarlySays f owes cell call v
-  by_all = judged_alike regs tails heads owing stored owes cell call judged
-
-  pub owes-known : (q : ℕ) → call.request ≡ some q → owes ≡ true → q < regs.queues
+  owes-known : (q : ℕ) → call.request ≡ some q → owes ≡ true → q < regs.queues
   owes-known q e t =
       owes-below (figures_in regs (by_queue [] heads owing) stored) q
       (ap (owes_now (figures_in regs (by_queue [] heads owing) stored)) (sym e) ∙ sym owes_is ∙ t)
 
+  -- The same by whether the request is Owed in all figures, and the oldest cell.
+  by_all : {r : Result Verdict Refusal}
+      → EarlySays (figures_in regs (by_queue tails heads []) stored) owes cell call r
+      → EarlySays f (owes_now f call.request) (oldest_cell cells) call r
+  by_all {r} judged =
+      subst (λ (o : Bool). EarlySays f o (oldest_cell cells) call r) owes-found
+      (subst (λ (c : Cell). EarlySays f owes c call r) (sym cell_is)
+      (judged_alike regs tails heads owing stored owes cell call judged))
+
+  abbrev to_read : Refill
+  to_read =
+      read_now regs.phase (sizes_in regs) (counts_in heads) cells (owes_now f call.request) (left_of f call).request
+
+  abbrev early : ℕ
+  early = early_number f (owes_now f call.request) (oldest_cell cells) call
+
+  -- The three outcomes.
+  abbrev Says : Result Plan Refusal → Type 0
+  Says r = PlanSays f regs.phase regs.head_fill cells call r
+
+  -- 4, 6, 8 or 9, as it is passed up.
+  pub refused-early : {refusal : Refusal}
+      → EarlySays (figures_in regs (by_queue tails heads []) stored) owes cell call (Err refusal)
+      → (r : Result Plan Refusal) → IsErrAnd r (λ e. e ≡ refusal) → Says r
+  refused-early judged (Ok p) told = absurd told
+  refused-early {refusal} judged (Err e) told =
+      subst (λ (k : Refusal). Says (Err k)) (sym told) (record {
+        number_is =
+            (by_all judged).number_is
+            ∙ first_here early
+            (when (full_now (sizes_in regs) regs.head_fill (oldest_cell cells) to_read.queue) 10 ∷ [])
+            (λ z. refusal_is_some refusal ((by_all judged).number_is ∙ z));
+        plan_is = tt;
+      })
+
   -- Of a slot that goes on.
-  module _ (none_early : v.number ≡ 0) where
+  module _ (v : Verdict)
+      (judged : EarlySays (figures_in regs (by_queue tails heads []) stored) owes cell call (Ok v)) where
+    -- By whether the request is Owed as the code has it.
+    found : EarlySays f owes cell call (Ok v)
+    found = judged_alike regs tails heads owing stored owes cell call judged
+
     abbrev stops : List ℕ
     stops =
         when (eqb (arrival_found f owes call) 4) 4 ∷
@@ -176,7 +226,7 @@ module _ (regs : Regs) (tails heads owing stored : List ℕ) (cells : List Cell)
         (left_now f owes call).arrival ∷ []
 
     none_at : (i : ℕ) → get_or stops i 0 ≡ 0
-    none_at i = no_refusal_at stops i (sym by_all.number_is ∙ none_early)
+    none_at i = no_refusal_at stops i (sym found.number_is)
 
     not-4 : arrival_found f owes call ≡ 4 → ⊥
     not-4 = eqb-false (arrival_found f owes call) 4 (when-zero _ 3 (none_at 0))
@@ -184,11 +234,11 @@ module _ (regs : Regs) (tails heads owing stored : List ℕ) (cells : List Cell)
     not-6 : request_found f owes call ≡ 6 → ⊥
     not-6 = eqb-false (request_found f owes call) 6 (when-zero _ 5 (none_at 1))
 
-    left-arrival : arrival_in v.arrival ≡ (left_now f owes call).arrival
-    left-arrival = ap (λ (c : Call). c.arrival) (by_all.left_is none_early)
+    left-arrival : arrival_in v.call.arrival ≡ (left_now f owes call).arrival
+    left-arrival = ap (λ (c : Call). c.arrival) found.verdict_is.left_is
 
-    left-request : request_in v.request ≡ (left_now f owes call).request
-    left-request = ap (λ (c : Call). c.request) (by_all.left_is none_early)
+    left-request : request_in v.call.request ≡ (left_now f owes call).request
+    left-request = ap (λ (c : Call). c.request) found.verdict_is.left_is
 
     -- A leaving Owed cell has a head byte.
     pub leaving_has_byte : (q : ℕ) → cell ≡ owed q → 1 ≤ counts_in heads q
@@ -199,20 +249,21 @@ module _ (regs : Regs) (tails heads owing stored : List ℕ) (cells : List Cell)
 
     -- What is left of the arrival is of a queue below the last, and so is a request that is Owed; one that takes a tail
     -- byte finds one.
-    pub arrival-known : (y : Byte) → arrival_in v.arrival ≡ some y → y.queue < regs.queues
+    pub arrival-known : (y : Byte) → arrival_in v.call.arrival ≡ some y → y.queue < regs.queues
     arrival-known y e =
         arrival-below f (swaps_now f owes call.arrival call.request) y
         (λ z. not-4 (ap (arrival_number f (swaps_now f owes call.arrival call.request))
         (arrival-came (arrival_found f owes call) call.arrival y (sym left-arrival ∙ e)) ∙ z))
 
-    came : (q : ℕ) → request_in v.request ≡ some q → (call.request ≡ some q) × (request_found f owes call ≡ 7 → ⊥)
+    came : (q : ℕ) → request_in v.call.request ≡ some q
+        → (call.request ≡ some q) × (request_found f owes call ≡ 7 → ⊥)
     came q e = request-came (request_found f owes call) call.request q (sym left-request ∙ e)
 
-    pub owed_known : (q : ℕ) → request_in v.request ≡ some q → owes ≡ true → q < regs.queues
+    pub owed_known : (q : ℕ) → request_in v.call.request ≡ some q → owes ≡ true → q < regs.queues
     owed_known q e t = owes-known q (came q e).0 t
 
-    pub byte-known : (q : ℕ) → request_in v.request ≡ some q → owes ≡ false
-        → (q < regs.queues) × (1 ≤ arrival_counted (arrival_in v.arrival) (counts_in tails) q)
+    pub byte-known : (q : ℕ) → request_in v.call.request ≡ some q → owes ≡ false
+        → (q < regs.queues) × (1 ≤ arrival_counted (arrival_in v.call.arrival) (counts_in tails) q)
     byte-known q e t =
         rw left-arrival
         (request-finds f (left_now f owes call).arrival q
@@ -223,101 +274,61 @@ module _ (regs : Regs) (tails heads owing stored : List ℕ) (cells : List Cell)
             ap (request_number f owes (left_now f owes call).arrival) (came q e).0
             ∙ ap (λ (o : Bool). request_number f o (left_now f owes call).arrival (some q)) t
 
-  -- The same by whether the request is Owed in all figures, and the oldest cell.
-  pub judged_by_all : EarlySays f (owes_now f call.request) (oldest_cell cells) call v
-  judged_by_all =
-      subst (λ (o : Bool). EarlySays f o (oldest_cell cells) call v) owes-found
-      (subst (λ (c : Cell). EarlySays f owes c call v) (sym cell_is) by_all)
+    verdict : IsVerdict f (owes_now f call.request) call v
+    verdict = (by_all judged).verdict_is
 
-  abbrev to_read : Refill
-  to_read =
-      read_now regs.phase (sizes_in regs) (counts_in heads) cells (owes_now f call.request) (left_of f call).request
-
-  abbrev early : ℕ
-  early = early_number f (owes_now f call.request) (oldest_cell cells) call
-
-  -- The three outcomes.
-  abbrev Says : Plan → Type 0
-  Says r = PlanSays f regs.phase regs.head_fill cells call r
-
-  refused_says : {r : Plan}
-      → r.number
-      ≡ first_refusal (
-      early ∷ when (full_now (sizes_in regs) regs.head_fill (oldest_cell cells) to_read.queue) 10 ∷ [])
-      → (r.number ≡ 0 → ⊥) → Says r
-  refused_says e n = record {
-    number_is = e;
-    arrival-number_is = λ z. absurd (n z);
-    request-number_is = λ z. absurd (n z);
-    left_is = λ z. absurd (n z);
-    owes_is = λ z. absurd (n z);
-    swaps-is = λ z. absurd (n z);
-    written_is = λ z. absurd (n z);
-    read_is = λ z. absurd (n z);
-  }
-
-  pub refused-early : (v.number ≡ 0 → ⊥) → {r : Plan} → r.number ≡ v.number → Says r
-  refused-early n {r} e =
-      refused_says
-      (e ∙ judged_by_all.number_is
-      ∙ first_here early (when (full_now (sizes_in regs) regs.head_fill (oldest_cell cells) to_read.queue) 10 ∷ [])
-      (λ z. n (judged_by_all.number_is ∙ z)))
-      (λ z. n (sym e ∙ z))
-
-  module _ (none_early : v.number ≡ 0)
-      (refill : code.Refill)
-      (read_is : refill_in refill
-      ≡ read_now regs.phase (sizes_in regs) (counts_in heads) cells owes (request_in v.request))
-      {full : Bool} (Full-is : full ≡ full_now (sizes_in regs) regs.head_fill cell (chosen_in refill.queue)) where
     no_early : early ≡ 0
-    no_early = sym judged_by_all.number_is ∙ none_early
+    no_early = sym (by_all judged).number_is
 
-    left-found : call_in v.arrival v.request ≡ left_of f call
-    left-found = judged_by_all.left_is none_early
+    module _ (refill : Option code.Refill)
+        (read_is : refill_in refill
+        ≡ read_now regs.phase (sizes_in regs) (counts_in heads) cells owes (request_in v.call.request))
+        (read : Option ℕ) (queue_is : chosen_in read ≡ (refill_in refill).queue)
+        {full : Bool} (Full-is : full ≡ full_now (sizes_in regs) regs.head_fill cell (chosen_in read)) where
+      read_found : refill_in refill ≡ to_read
+      read_found =
+          read_is
+          ∙ ap (λ (o : Bool). read_now regs.phase (sizes_in regs) (counts_in heads) cells o (request_in v.call.request))
+          owes-found
+          ∙ ap (λ (c : Call). read_now regs.phase (sizes_in regs) (counts_in heads) cells (owes_now f call.request)
+          c.request) verdict.left_is
 
-    read_found : refill_in refill ≡ to_read
-    read_found =
-        read_is
-        ∙ ap (λ (o : Bool). read_now regs.phase (sizes_in regs) (counts_in heads) cells o (request_in v.request))
-        owes-found
-        ∙ ap (λ (c : Call). read_now regs.phase (sizes_in regs) (counts_in heads) cells (owes_now f call.request)
-        c.request) left-found
+      full-found : full ≡ full_now (sizes_in regs) regs.head_fill (oldest_cell cells) to_read.queue
+      full-found =
+          Full-is
+          ∙ ap (λ (c : Cell). full_now (sizes_in regs) regs.head_fill c (chosen_in read)) (sym cell_is)
+          ∙ ap (full_now (sizes_in regs) regs.head_fill (oldest_cell cells)) queue_is
+          ∙ ap (λ (r : Refill). full_now (sizes_in regs) regs.head_fill (oldest_cell cells) r.queue) read_found
 
-    full-found : full ≡ full_now (sizes_in regs) regs.head_fill (oldest_cell cells) to_read.queue
-    full-found =
-        Full-is
-        ∙ ap (λ (c : Cell). full_now (sizes_in regs) regs.head_fill c (chosen_in refill.queue)) (sym cell_is)
-        ∙ ap (λ (r : Refill). full_now (sizes_in regs) regs.head_fill (oldest_cell cells) r.queue) read_found
+      pub refused_full : full ≡ true → Says (Err because.HeadFull)
+      refused_full t = record { number_is = rw (no_early, ← full-found, t); plan_is = tt }
 
-    pub refused_full : full ≡ true → {r : Plan} → r.number ≡ 10 → Says r
-    refused_full t {r} e = refused_says (rw (no_early, ← full-found, t) e) (λ z. omega (arith, e, z))
-
-    pub plan_accepted : full ≡ false → (written : Chosen)
-        → chosen_in written
-        ≡ write_now regs.phase (sizes_in regs) (tails_asked owes (call_in v.arrival v.request) (counts_in tails))
-        → Says (record {
-          number = 0;
-          arrival_number = v.arrival_number;
-          request_number = v.request_number;
-          arrival = v.arrival;
-          request = v.request;
-          owes = owes;
-          swaps = v.swaps;
-          written = written;
-          refill = refill;
-        })
-    plan_accepted t written written_is = record {
-      number_is = rw (no_early, ← full-found, t);
-      arrival-number_is = λ z. judged_by_all.arrival-number_is none_early;
-      request-number_is = λ z. judged_by_all.request-number_is none_early;
-      left_is = λ z. left-found;
-      owes_is = λ z. owes-found;
-      swaps-is = λ z. judged_by_all.swaps-is none_early;
-      written_is = λ z.
-          written_is
-          ∙ ap (λ (o : Bool). write_now regs.phase (sizes_in regs)
-          (tails_asked o (call_in v.arrival v.request) (counts_in tails))) owes-found
-          ∙ ap (λ (c : Call). write_now regs.phase (sizes_in regs)
-          (tails_asked (owes_now f call.request) c (counts_in tails))) left-found;
-      read_is = λ z. read_found;
-    }
+      pub plan_accepted : full ≡ false → (written : Option ℕ)
+          → chosen_in written
+          ≡ write_now regs.phase (sizes_in regs) (tails_asked owes (call_in v.call) (counts_in tails))
+          → Says (Ok (record {
+            arrival_dropped = v.arrival_dropped;
+            request_dropped = v.request_dropped;
+            call = v.call;
+            owes = owes;
+            swaps = v.swaps;
+            written = written;
+            refill = refill;
+          }))
+      plan_accepted t written written_is = record {
+        number_is = rw (no_early, ← full-found, t);
+        plan_is = record {
+          arrival-number_is = verdict.arrival-number_is;
+          request-number_is = verdict.request-number_is;
+          left_is = verdict.left_is;
+          owes_is = owes-found;
+          swaps-is = verdict.swaps-is;
+          written_is =
+              written_is
+              ∙ ap (λ (o : Bool). write_now regs.phase (sizes_in regs)
+              (tails_asked o (call_in v.call) (counts_in tails))) owes-found
+              ∙ ap (λ (c : Call). write_now regs.phase (sizes_in regs)
+              (tails_asked (owes_now f call.request) c (counts_in tails))) verdict.left_is;
+          read_is = read_found;
+        };
+      }

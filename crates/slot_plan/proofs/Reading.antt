@@ -1,6 +1,8 @@
 -- The queue that a slot will read, as the scan of the older cells and the new cell find it.
 use mathlib.Core.Path.{◌≡◌, refl, ap, sym, ◌∙◌, fun_ext}
-use mathlib.Core.Bool.{Bool, true}
+use mathlib.Core.Bool.{Bool, true, false, true≢false}
+use Rattle.std.specs.Prelude as code
+use Rattle.std.specs.Prelude.{is_some}
 use mathlib.Core.List.{List, [], ◌∷◌, ◌++◌}
 use mathlib.Core.Option.{Option, some, none}
 use Prim.Native.Nat.{ℕ, ◌+◌, ◌-◌, ◌≤◌, ◌<◌}
@@ -10,16 +12,21 @@ use borrow.Author.Tests.{ltb-true, eq-eqb, ne_eqb}
 use Rattle.model.specs.Basics.{all_of}
 use Rattle.model.specs.Sizes.{Sizes}
 use Rattle.model.specs.State.{Cell, empty, held, owed, cell_below}
-use Rattle.model.specs.Slot.{oldest_cell, refill_queue, refill_by, no_refill}
+use Rattle.model.specs.Slot.{oldest_cell, refill_queue, refill_by}
 use Rattle.model.proofs.basics.Tests.{by_zero, positive, and_left}
 use Rattle.model.proofs.meaning.Scan.{scan_stops, scan_goes_on}
 use Rattle.layout.specs.Entries.{counts_in, cell_of, cells_in}
-use Rattle.layout.specs.Calls.{refill_at}
+use Rattle.layout.specs.Calls.{chosen_in, refill_at}
 use Rattle.layout.specs.Counts.{CountsAre}
 use Rattle.lookahead.specs.Says.{Scanned, scan_ends, spent}
 use Rattle.layout.proofs.Cells.{cells_from}
 use Rattle.layout.specs.Figures.{new_cell}
 use Rattle.slot_plan.specs.Says.{read_now}
+
+-- No older cell stopped the scan.
+pub none_found : (found : code.Option ℕ) → is_some found ≡ false → chosen_in found ≡ none
+none_found (code.Some q) e = absurd (true≢false e)
+none_found code.None e = refl
 
 -- A new Owed cell stops the scan where no credit is left to it, and else does not.
 pub new_stops : (left : ℕ → ℕ) (q : ℕ) → left q ≡ 0 → some q ≡ refill_queue left (owed q ∷ [])
@@ -58,11 +65,8 @@ module _ (n : ℕ) (xs : List ℕ) (some_cell : 1 ≤ n) (fits : n ≤ length xs
 pub owed_queue_below : (m c q : ℕ) → cell_below m (cell_of c) ≡ true → cell_of c ≡ owed q → q < m
 owed_queue_below m c q below e = ltb-true q m (ap (cell_below m) (sym e) ∙ below)
 
--- No read in a slot that makes no moves; and in one that does, what scan and new cell find.
+-- In a slot that makes moves the read is what scan and new cell find.
 module _ (phase : ℕ) (s : Sizes) (heads : ℕ → ℕ) (cells : List Cell) (owing : Bool) (request : Option ℕ) where
-  pub no_move_no_read : (phase + 1 ≡ s.b → ⊥) → 1 ≤ s.b → no_refill ≡ read_now phase s heads cells owing request
-  no_move_no_read n low = rw (ne_eqb phase (s.b - 1) (λ e. n (omega (arith, e))))
-
   pub move_reads : phase + 1 ≡ s.b → {credits : List ℕ} → CountsAre credits (spent heads (oldest_cell cells))
       → {found : Option ℕ} {passed : ℕ} {left : ℕ → ℕ} → Scanned (counts_in credits) (drop 1 cells) found passed left
       → scan_ends found passed left (new_cell owing request ∷ []) ≡ read_now phase s heads cells owing request

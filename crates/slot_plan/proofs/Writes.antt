@@ -1,25 +1,15 @@
--- The queue that a slot writes: none before the last phase of a block, and at that phase the fullest. So it is one of
--- the Q, and has a block.
+-- The queue that a slot writes is one of the Q, and has a block.
 use mathlib.Core.Path.{◌≡◌}
 use mathlib.Core.Bool.{Bool, true, false}
 use mathlib.Core.Option.{some, none}
-use Prim.Native.Nat.{ℕ, ◌+◌, ◌-◌, ◌≤◌, ◌<◌}
-use native.Mathlib.Omega.{arith}
+use Prim.Native.Nat.{ℕ, ◌-◌, ◌≤◌, ◌<◌}
 use lib.Dec.{eqb}
-use borrow.Author.Tests.{eq-eqb, ne_eqb}
 use Rattle.model.specs.Basics.{choose}
 use Rattle.model.specs.Sizes.{Sizes}
 use Rattle.model.specs.Slot.{fullest}
 use Rattle.model.proofs.basics.Tests.{none_not_some}
 use Rattle.model.proofs.meaning.Fullest.{fullest-some}
 use Rattle.slot_plan.specs.Says.{write_now}
-
-module _ (phase : ℕ) (s : Sizes) (tails : ℕ → ℕ) (b_low : 1 ≤ s.b) where
-  pub not_yet : (phase + 1 ≡ s.b → ⊥) → write_now phase s tails ≡ none
-  not_yet h = rw (ne_eqb phase (s.b - 1) (λ e. h (omega (arith, e))))
-
-  pub at_last_phase : phase + 1 ≡ s.b → write_now phase s tails ≡ fullest s.b tails s.Q
-  at_last_phase e = rw (eq-eqb phase (s.b - 1) (omega (arith, e)))
 
 pub write_has_block : (phase : ℕ) (s : Sizes) (tails : ℕ → ℕ) (q : ℕ) → write_now phase s tails ≡ some q
     → (q < s.Q) × (s.b ≤ tails q)

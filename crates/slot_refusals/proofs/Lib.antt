@@ -1,7 +1,6 @@
 -- Laws of the refusals, by topic.
 
--- 4 to 9, each by what its test has found, and the first of them.
+-- 4 to 8, each by what its test has found.
 pub mod Judging
-pub mod Firsts
 -- 10.
 pub mod Room

@@ -1,13 +1,16 @@
 -- Refusals 4 to 10 by the figures of a state, before anything moves. That they are the paper's own is shown where they
 -- are put together (crates/slot_plan/proofs/PaperPlan.antt).
 use Rattle.std.specs.Prelude.{◌≡◌, Bool, false, ◌&&◌, not, List, [], ◌∷◌, ℕ, ◌+◌, ◌-◌, ◌*◌, eqb, ltb, leb}
+use Rattle.std.specs.Prelude.{Result, Ok, Err, IfOk, IfErr}
 use Rattle.std.proofs.Math.Option.{Option, some, none}
 use Rattle.model.specs.Basics.{choose, all_true, when, first_refusal}
 use Rattle.model.specs.Sizes.{Sizes, tail_size, head_size}
 use Rattle.model.specs.State.{Byte, Cell, empty, held, owed}
 use Rattle.model.specs.Slot.{Call}
-use Rattle.layout.specs.Calls.{call_in}
+use Rattle.layout.specs.Calls.{call_in, number_of, number_in}
+use Rattle.layout.specs.declared.Refusal.{Refusal}
 use Rattle.layout.specs.Figures.{Figures}
+use Rattle.slot_refusals.specs.declared.ArrivalJudged.{ArrivalJudged}
 use Rattle.slot_refusals.specs.declared.Verdict.{Verdict}
 
 -- Whether the request takes an Owed cell.
@@ -50,10 +53,19 @@ arrival_number f swapping none = 0
 arrival_number f swapping (some y) =
     choose (leb f.sizes.Q y.queue) 4 (when (queue_full_now f y.queue && not swapping) 5)
 
--- What is judged of an arrival: 4, 5 or none, and whether the slot swaps.
-pub record ArrivalSays (f : Figures) (owing : Bool) (call : Call) (number : ℕ) (swapping : Bool) : Type 0 where
-  pub swaps-is : swapping ≡ swaps_now f owing call.arrival call.request
-  pub number_is : number ≡ arrival_number f swapping call.arrival
+-- What is judged of an arrival: 4, 5 or none, and whether the slot swaps, which it does not where 4 stops it.
+abbrev pub arrival_told : Result ArrivalJudged Refusal → ℕ
+arrival_told (Ok j) = choose j.dropped 5 0
+arrival_told (Err refusal) = number_of refusal
+
+abbrev pub swaps_told : Result ArrivalJudged Refusal → Bool
+swaps_told (Ok j) = j.swaps
+swaps_told (Err refusal) = false
+
+pub record ArrivalSays (f : Figures) (owing : Bool) (call : Call) (r : Result ArrivalJudged Refusal) : Type 0 where
+  pub swaps-is : swaps_told r ≡ swaps_now f owing call.arrival call.request
+  pub number_is : arrival_told r ≡ arrival_number f (swaps_told r) call.arrival
+  pub stops-is : IfErr r (λ refusal. number_of refusal ≡ 4)
 
 -- 6: "Request queue Q or more." 7: "Request queue would take a tail byte and has none, this slot's arrival counted."
 abbrev pub request_number : Figures → Bool → Option Byte → Option ℕ → ℕ
@@ -61,6 +73,11 @@ request_number f owing arrival none = 0
 request_number f owing arrival (some q) =
     choose (leb f.sizes.Q q) 6
     (choose owing 0 (choose (arrives_at arrival q) 0 (when (eqb (f.tails q) 0) 7)))
+
+-- What is judged of a request: 6, 7 or none.
+abbrev pub request_told : Result Bool Refusal → ℕ
+request_told (Ok dropped) = choose dropped 7 0
+request_told (Err refusal) = number_of refusal
 
 -- 8: "Owed cell leaving, no head byte of its queue."
 abbrev pub leaving_number : (ℕ → ℕ) → Cell → ℕ
@@ -107,12 +124,15 @@ early_number f owing cell call =
 
 -- What is judged before the read: the number that stops the slot, and of a slot that goes on the numbers of its halves,
 -- what is left of them, and whether it swaps.
-pub record EarlySays (f : Figures) (owing : Bool) (cell : Cell) (call : Call) (r : Verdict) : Type 0 where
-  pub number_is : r.number ≡ early_number f owing cell call
-  pub arrival-number_is : r.number ≡ 0 → r.arrival_number ≡ arrival_found f owing call
-  pub request-number_is : r.number ≡ 0 → r.request_number ≡ request_found f owing call
-  pub left_is : r.number ≡ 0 → call_in r.arrival r.request ≡ left_now f owing call
-  pub swaps-is : r.number ≡ 0 → r.swaps ≡ swaps_now f owing call.arrival call.request
+pub record IsVerdict (f : Figures) (owing : Bool) (call : Call) (v : Verdict) : Type 0 where
+  pub arrival-number_is : choose v.arrival_dropped 5 0 ≡ arrival_found f owing call
+  pub request-number_is : choose v.request_dropped 7 0 ≡ request_found f owing call
+  pub left_is : call_in v.call ≡ left_now f owing call
+  pub swaps-is : v.swaps ≡ swaps_now f owing call.arrival call.request
+
+pub record EarlySays (f : Figures) (owing : Bool) (cell : Cell) (call : Call) (r : Result Verdict Refusal) : Type 0 where
+  pub number_is : number_in r ≡ early_number f owing cell call
+  pub verdict_is : IfOk r (IsVerdict f owing call)
 
 -- 10: "Head cannot take the block of step 4": a leaving Owed cell has taken a byte.
 abbrev pub takes_byte : Cell → ℕ

@@ -22,8 +22,7 @@ use Rattle.layout.specs.declared.Regs.{Regs}
 use Rattle.layout.specs.Views.{Arrays, Long, sizes_in, state_in}
 use Rattle.layout.proofs.Rings.{rings_length, ring-at}
 use Rattle.layout.proofs.Fits.{tail_in_array, head_in_array, tail_length, head_length}
-use Rattle.slot_rules.specs.declared.RulesJudged.{RulesJudged}
-use Rattle.slot_rules.specs.Says.{regs_keep, ring_keeps, queue_keeps, queues_keep, RulesSays}
+use Rattle.slot_rules.specs.Says.{regs_keep, ring_keeps, queue_keeps, queues_keep}
 use Rattle.slot_rules.proofs.Numbers.{Fit, fit_holds, tail_within, head_within, cells_within}
 use Rattle.slot_rules.proofs.Queues.{ring-first, ring-room, ring-backed}
 
@@ -35,6 +34,12 @@ pub cells_wider : (n m : ℕ) → n ≤ m → (cells : List Cell) → all_of (ce
     → all_of (cell_below m) cells ≡ true
 cells_wider n m h cells e = cells_below_holds n m h cells (cells_below_facts n cells e)
 
+-- Every byte and every cell is of a queue below Q.
+pub record Known (x : State) : Type 0 where
+  pub tail_below : all_of (byte_below x.sizes.Q) x.tail ≡ true
+  pub head_below : all_of (byte_below x.sizes.Q) x.head ≡ true
+  pub cells_below : all_of (cell_below x.sizes.Q) x.cells ≡ true
+
 same_test : (s t : Bool) → (s ≡ true → t ≡ true) → (t ≡ true → s ≡ true) → s ≡ t
 same_test true t f g = sym (f refl)
 same_test false true f g = g refl
@@ -44,8 +49,8 @@ module _ (regs : Regs) (m : Arrays) (long : Long m) where
   abbrev x : State
   x = state_in regs m
 
-  fails : (keeps paper x ≡ true → ⊥) → false ≡ keeps paper x
-  fails h = by_test (keeps paper x) (λ t. absurd (h t)) (λ t. sym t)
+  fails : (keeps paper x ≡ true → ⊥) → keeps paper x ≡ false
+  fails h = by_test (keeps paper x) (λ t. absurd (h t)) (λ t. t)
 
   rule : keeps paper x ≡ true → (i : ℕ) → get_or (rules paper x) i true ≡ true
   rule e i = all_true_at (rules paper x) i e
@@ -67,27 +72,20 @@ module _ (regs : Regs) (m : Arrays) (long : Long m) where
       }
 
   -- Where one part fails, the rules do.
-  pub numbers-fail : regs_keep regs ≡ false → false ≡ keeps paper x
+  pub numbers-fail : regs_keep regs ≡ false → keeps paper x ≡ false
   numbers-fail f = fails (λ e. true_not_false (regs_keep regs) (fit_holds regs (kept_fit e)) f)
 
-  pub tail_fails : all_of (byte_below regs.queues) x.tail ≡ false → false ≡ keeps paper x
+  pub tail_fails : all_of (byte_below regs.queues) x.tail ≡ false → keeps paper x ≡ false
   tail_fails f = fails (λ e. true_not_false (all_of (byte_below regs.queues) x.tail) (rule e 7) f)
 
-  pub head_fails : all_of (byte_below regs.queues) x.head ≡ false → false ≡ keeps paper x
+  pub head_fails : all_of (byte_below regs.queues) x.head ≡ false → keeps paper x ≡ false
   head_fails f = fails (λ e. true_not_false (all_of (byte_below regs.queues) x.head) (rule e 8) f)
 
-  pub cells_fail : all_of (cell_below regs.queues) x.cells ≡ false → false ≡ keeps paper x
+  pub cells_fail : all_of (cell_below regs.queues) x.cells ≡ false → keeps paper x ≡ false
   cells_fail f = fails (λ e. true_not_false (all_of (cell_below regs.queues) x.cells) (rule e 9) f)
 
-  pub rules-broken : {r : RulesJudged} → r.kept ≡ false → false ≡ keeps paper x → RulesSays x r
-  rules-broken {r} e f = record { kept_is = e ∙ f; counted = λ t. absurd (true_not_false r.kept t e) }
-
   -- Where they hold, the queues decide, by counts of their tail bytes, head bytes and Owed cells.
-  module _ (f : Fit regs)
-      (tail_below : all_of (byte_below regs.queues) x.tail ≡ true)
-      (head_below : all_of (byte_below regs.queues) x.head ≡ true)
-      (cells_below : all_of (cell_below regs.queues) x.cells ≡ true)
-      {counts : ByQueue} (t : Tallies x counts) where
+  module _ (f : Fit regs) (known : Known x) {counts : ByQueue} (t : Tallies x counts) where
     abbrev at_queue : ℕ → Bool
     at_queue =
         queue_keeps regs (counts_in m.firsts) (counts_in m.stored) (counts_in counts.tails)
@@ -125,9 +123,9 @@ module _ (regs : Regs) (m : Arrays) (long : Long m) where
       sizes-ok = f.sizes-ok;
       phase_ok = f.phase_ok;
       within = record {
-        tail_below = below_facts regs.queues x.tail tail_below;
-        head_below = below_facts regs.queues x.head head_below;
-        cells_below = cells_below_facts regs.queues x.cells cells_below;
+        tail_below = below_facts regs.queues x.tail known.tail_below;
+        head_below = below_facts regs.queues x.head known.head_below;
+        cells_below = cells_below_facts regs.queues x.cells known.cells_below;
         cells_long = cells_length (lookahead (sizes_in regs)) m.cells
             (omega (arith, cells_within regs f, long.cells_long));
         rings_long = rings_length regs.queues m.firsts m.stored;

@@ -1,7 +1,7 @@
 -- The numbers of a state fit exactly where the sizes are accepted, the phase is below b, each mark lies between its
 -- fill and its cache size and the last one asked is below Q; and then fills and lookahead lie within their arrays.
 use mathlib.Core.Path.{◌≡◌, sym, ◌∙◌}
-use mathlib.Core.Bool.{Bool, true, false, and-true}
+use mathlib.Core.Bool.{Bool, true, and-true}
 use mathlib.Core.List.{List, [], ◌∷◌}
 use Prim.Native.Nat.{ℕ, ◌≤◌, ◌<◌}
 use native.Mathlib.Omega.{arith}
@@ -10,7 +10,7 @@ use lib.ListN.{get_or}
 use borrow.Author.Tests.{ltb-true, lt-ltb}
 use Rattle.model.specs.Basics.{between}
 use Rattle.model.specs.Sizes.{paper_limits, accepts, tail_size, head_size, lookahead}
-use Rattle.model.proofs.basics.Tests.{by_test, between-facts, between-holds}
+use Rattle.model.proofs.basics.Tests.{between-facts, between-holds}
 use Rattle.model.proofs.basics.AllOf.{all_true_at}
 use Rattle.layout.specs.Lengths.{tail_places, head_places, cell_places}
 use Rattle.layout.specs.declared.Regs.{Regs}
@@ -75,9 +75,6 @@ pub fit_holds : (regs : Regs) → Fit regs → regs_keep regs ≡ true
 fit_holds regs f =
     sym (fit_decided regs f.sizes-ok f.phase_ok f.tail_low f.tail_high f.head_low f.head_high)
     ∙ lt-ltb regs.last_asked regs.queues f.last_below
-
-pub fit_not : (regs : Regs) → (Fit regs → ⊥) → false ≡ regs_keep regs
-fit_not regs h = by_test (regs_keep regs) (λ t. absurd (h (fit_facts regs t))) (λ t. sym t)
 
 -- Fills that fit lie within their arrays, and so does the lookahead.
 pub tail_within : (regs : Regs) → Fit regs → regs.tail_fill < tail_places

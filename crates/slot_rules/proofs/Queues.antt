@@ -1,21 +1,20 @@
--- All queues keep their rules exactly where each does: the loop adds one queue that does, or ends at one that does not.
-use mathlib.Core.Path.{◌≡◌, sym, ◌∙◌}
-use mathlib.Core.Bool.{Bool, true, false, ◌&&◌, and-true}
-use mathlib.Core.List.{List}
-use Prim.Native.Nat.{ℕ, ◌+◌, ◌*◌, ◌≤◌, ◌<◌}
+-- One queue keeps its rules by its numbers; all queues do exactly where each does.
+use mathlib.Core.Path.{◌≡◌, refl, ap, sym, ◌∙◌}
+use mathlib.Core.Bool.{Bool, true, ◌&&◌, and_comm}
+use Prim.Native.Nat.{ℕ, zero, suc, ◌+◌, ◌*◌, ◌≤◌, ◌<◌}
 use native.Mathlib.Omega.{arith}
-use native.Mathlib.Nat.{mul-le-mul}
 use native.Mathlib.Numerals.{add-one}
 use lib.Dec.{ltb, leb}
-use lib.ListN.{get_or}
-use borrow.Author.Tests.{ltb-true, leb-true, lt-ltb, le-leb}
+use lib.ListN.{take, get_or}
+use lib.Seq.{take-length}
+use Rattle.std.specs.List.{list_all, range_with_len}
+use Rattle.std.proofs.lemmas.List.Folds.{list_all_more}
+use Rattle.std.proofs.lemmas.List.FromFn.{length-range_with_len, get_or-range_with_len}
+use borrow.Author.Tests.{ltb-true, leb-true}
 use Rattle.model.specs.Basics.{all_below}
-use Rattle.model.proofs.basics.Tests.{by_test, true_not_false, and_both, and_left, and_right}
-use Rattle.model.proofs.basics.AllOf.{all_below_facts}
-use Rattle.layout.specs.Entries.{counts_in}
+use Rattle.model.proofs.basics.Tests.{and_left, and_right}
 use Rattle.layout.specs.declared.Regs.{Regs}
-use Rattle.layout.proofs.Ranges.{InLimits}
-use Rattle.slot_rules.specs.Says.{ring_keeps, queue_keeps}
+use Rattle.slot_rules.specs.Says.{ring_keeps}
 
 -- The numbers of one queue.
 module _ (regs : Regs) (first count tail head owed : ℕ) where
@@ -40,41 +39,21 @@ module _ (regs : Regs) (first count tail head owed : ℕ) where
       (and_left backed true
       (and_right room (backed && true) (and_right (ltb first regs.depth) (room && (backed && true)) e)))
 
-  -- Where one rule fails they do; where the first two hold, the last decides.
-  pub ring-not : (ring_keeps regs first count tail head owed ≡ true → ⊥)
-      → false ≡ ring_keeps regs first count tail head owed
-  ring-not h = by_test (ring_keeps regs first count tail head owed) (λ t. absurd (h t)) (λ t. sym t)
+-- All queues: the test of those that count up from 0 is that of those below a number.
+tests_below : (test : ℕ → Bool) (n i : ℕ) → i ≤ n → list_all test (take i (range_with_len 0 n)) ≡ all_below i test
+tests_below test n zero l = refl
+tests_below test n (suc i) l =
+    ap (λ (k : ℕ). list_all test (take k (range_with_len 0 n))) (sym (add-one i))
+    ∙ list_all_more test (range_with_len 0 n) i 0 (omega (arith, l, length-range_with_len 0 n))
+    ∙ ap (λ (k : ℕ). list_all test (take i (range_with_len 0 n)) && test k) here
+    ∙ ap (λ (t : Bool). t && test i) (tests_below test n i (omega (arith, l)))
+    ∙ and_comm (all_below i test) (test i)
+  where
+    here : get_or (range_with_len 0 n) i 0 ≡ i
+    here = omega (arith, get_or-range_with_len 0 n i 0 (omega (arith, l)))
 
-  pub ring-decided : first < regs.depth → tail + regs.block * count ≤ regs.depth * regs.block
-      → backed ≡ ring_keeps regs first count tail head owed
-  ring-decided h k =
-      rw (lt-ltb first regs.depth h, le-leb (tail + regs.block * count) (regs.depth * regs.block) k)
-      (sym (and-true backed))
-
--- The products of one queue's numbers are small.
-pub blocks-small : (regs : Regs) (count : ℕ) → InLimits regs → count < 256 → regs.block * count ≤ 32640
-blocks-small regs count f l =
-    mul-le-mul {n₁ = regs.block} {m₁ = count} {n₂ = 128} {m₂ = 255} f.b_high (omega arith)
-
-pub ring-small : (regs : Regs) → InLimits regs → regs.depth * regs.block ≤ 32640
-ring-small regs f = mul-le-mul {n₁ = regs.depth} {m₁ = regs.block} {n₂ = 255} {m₂ = 128} f.k_high f.b_high
-
--- All queues, by arrays of their numbers.
-module _ (regs : Regs) (firsts stored tails heads owing : List ℕ) where
-  abbrev pub keeps_at : ℕ → Bool
-  keeps_at = queue_keeps regs (counts_in firsts) (counts_in stored) (counts_in tails) (counts_in heads) (counts_in owing)
-
-  abbrev pub judged : ℕ → Bool
-  judged q = ring_keeps regs (get_or firsts q 0) (get_or stored q 0) (get_or tails q 0) (get_or heads q 0) (get_or owing q 0)
-
-  module _ (q : ℕ) (answer : Bool) (answer-is : answer ≡ judged q) where
-    pub one_keeps : all_below q keeps_at ≡ true → answer ≡ true → all_below (q + 1) keeps_at ≡ true
-    unfolding counts_in
-    one_keeps e k = rw add-one (and_both (judged q) (all_below q keeps_at) (sym answer-is ∙ k) e)
-
-    pub one_fails : q < regs.queues → answer ≡ false → false ≡ all_below regs.queues keeps_at
-    unfolding counts_in
-    one_fails l k =
-        by_test (all_below regs.queues keeps_at)
-        (λ t. absurd (true_not_false answer (answer-is ∙ all_below_facts regs.queues keeps_at t q l) k))
-        (λ t. sym t)
+pub queues_below : (test : ℕ → Bool) (n : ℕ) → list_all test (range_with_len 0 n) ≡ all_below n test
+queues_below test n =
+    ap (list_all test)
+    (sym (ap (λ (k : ℕ). take k (range_with_len 0 n)) (sym (length-range_with_len 0 n)) ∙ take-length (range_with_len 0 n)))
+    ∙ tests_below test n n (omega arith)

@@ -1,12 +1,12 @@
 -- The rules of a state in the two parts in which code judges them: numbers alone, and figures by queue.
-use Rattle.std.specs.Prelude.{◌≡◌, Bool, true, [], ◌∷◌, ℕ, ◌+◌, ◌*◌, ltb, leb}
+use Rattle.std.specs.Prelude.{◌≡◌, Bool, true, false, [], ◌∷◌, ℕ, ◌+◌, ◌*◌, ltb, leb, Option, Some, None}
 use Rattle.model.specs.Basics.{between, all_true, all_below}
 use Rattle.model.specs.Sizes.{paper_limits, paper, accepts, tail_size, head_size}
 use Rattle.model.specs.State.{State, keeps}
 use Rattle.layout.specs.declared.Regs.{Regs}
-use Rattle.layout.specs.Counts.{by_queue, Tallies}
+use Rattle.layout.specs.declared.QueueCounts.{QueueCounts}
+use Rattle.layout.specs.Counts.{counts_of, Tallies}
 use Rattle.layout.specs.Views.{sizes_in}
-use Rattle.slot_rules.specs.declared.RulesJudged.{RulesJudged}
 
 -- Accepted sizes, the phase below b, each mark between its fill and its cache size, and the last one asked below Q.
 abbrev pub regs_keep : Regs → Bool
@@ -36,6 +36,6 @@ queues_keep regs firsts stored tails heads owing =
     all_below regs.queues (queue_keeps regs firsts stored tails heads owing)
 
 -- Whether a state keeps the rules, and where it does its counts by queue.
-pub record RulesSays (x : State) (r : RulesJudged) : Type 0 where
-  pub kept_is : r.kept ≡ keeps paper x
-  pub counted : r.kept ≡ true → Tallies x (by_queue r.tails r.heads r.owing)
+abbrev pub RulesSays : State → Option QueueCounts → Type 0
+RulesSays x (Some counts) = (keeps paper x ≡ true) × Tallies x (counts_of counts)
+RulesSays x None = keeps paper x ≡ false

@@ -1,39 +1,29 @@
 // Whether a state keeps the rules (refusal 3): the paper's section "The state", judged on any numbers and any arrays.
+// The arrays are lent one by one: crates/layout says why.
 #![tactic(auto)]
 
-ghost use Rattle.std.specs.Prelude.{◌≡◌, true, false, length};
+ghost use Rattle.std.specs.Prelude.{◌≡◌, true};
 ghost use Rattle.model.specs.Sizes.{paper_limits, accepts};
-ghost use Rattle.layout.specs.Lengths.{queue_places};
 ghost use Rattle.layout.specs.Entries.{counts_in};
 ghost use Rattle.layout.specs.Views.{Long, arrays, sizes_in, state_in};
 ghost use Rattle.slot_rules.specs.Says.{regs_keep, ring_keeps, queues_keep, RulesSays};
 
-use layout::{CellArray, CountArray, HeadArray, QUEUE_PLACES, Regs, RingArray, TailArray};
+use layout::{CellArray, HeadArray, QueueCounts, Regs, RingArray, TailArray};
 
 // Sizes, phase, fills, high marks and the last one asked.
 fn regs_keep(regs: Regs) -> bool
     ensures { result ≡ regs_keep regs }
 {
-    if sizing::accepted(regs.queues, regs.block, regs.depth) {
-        let span = regs.queues * (regs.block - 1);
-        if regs.block <= regs.phase {
-            return false;
-        }
-        if regs.tail_mark < regs.tail_fill {
-            return false;
-        }
-        if span + regs.block < regs.tail_mark {
-            return false;
-        }
-        if regs.head_mark < regs.head_fill {
-            return false;
-        }
-        if 2 * span + 1 < regs.head_mark {
-            return false;
-        }
-        return regs.last_asked < regs.queues;
+    if !sizing::accepted(regs.queues, regs.block, regs.depth) {
+        return false;
     }
-    false
+    let span = regs.queues * (regs.block - 1);
+    regs.phase < regs.block
+        && regs.tail_fill <= regs.tail_mark
+        && regs.tail_mark <= span + regs.block
+        && regs.head_fill <= regs.head_mark
+        && regs.head_mark <= 2 * span + 1
+        && regs.last_asked < regs.queues
 }
 
 // One queue: its first ring block, its room and its backing.
@@ -41,96 +31,59 @@ fn queue_keeps(first: u8, count: u8, tail: u16, head: u16, owed: u16, regs: Regs
     requires { accepts paper_limits (sizes_in regs) ≡ true }
     ensures { result ≡ ring_keeps regs first count tail head owed }
 {
-    let in_store = regs.block * (count as usize);
-    if regs.depth <= (first as usize) {
-        return false;
-    }
-    if regs.depth * regs.block < (tail as usize) + in_store {
-        return false;
-    }
-    (owed as usize) <= (head as usize) + in_store
+    let in_store = regs.block * count as usize;
+    (first as usize) < regs.depth
+        && tail as usize + in_store <= regs.depth * regs.block
+        && owed as usize <= head as usize + in_store
 }
 
 // The first ring block, the room and the backing of each queue.
-fn queues_keep(
+fn queues_keep(firsts: &RingArray, stored: &RingArray, counts: &QueueCounts, regs: Regs) -> bool
+    requires { accepts paper_limits (sizes_in regs) ≡ true }
+    ensures { result ≡ queues_keep regs (counts_in firsts.now) (counts_in stored.now)
+        (counts_in counts.now.tails) (counts_in counts.now.heads) (counts_in counts.now.owing) }
+{
+    (0..regs.queues).all(|q| {
+        queue_keeps(
+            firsts[q],
+            stored[q],
+            counts.tails[q],
+            counts.heads[q],
+            counts.owing[q],
+            regs,
+        )
+    })
+}
+
+// Whether the whole state keeps the rules; where it does, its counts by queue, which judging takes and every slot needs.
+pub fn judge_rules(
+    tail: &TailArray,
+    head: &HeadArray,
+    cells: &CellArray,
     firsts: &RingArray,
     stored: &RingArray,
-    tails: &CountArray,
-    heads: &CountArray,
-    owing: &CountArray,
     regs: Regs,
-) -> bool
-    requires { (accepts paper_limits (sizes_in regs) ≡ true)
-        × (length firsts.now ≡ queue_places) × (length stored.now ≡ queue_places)
-        × (length tails.now ≡ queue_places) × (length heads.now ≡ queue_places)
-        × (length owing.now ≡ queue_places) }
-    ensures { result ≡ queues_keep regs (counts_in firsts.now) (counts_in stored.now)
-        (counts_in tails.now) (counts_in heads.now) (counts_in owing.now) }
-{
-    let mut q: usize = 0;
-    while q < regs.queues {
-        if queue_keeps(firsts[q], stored[q], tails[q], heads[q], owing[q], regs) {
-            q += 1;
-        } else {
-            return false;
-        }
-    }
-    true
-}
-
-// Whether a state keeps the rules; where it does, also its counts by queue, which judging takes and every slot needs.
-#[derive(Drop)]
-pub struct RulesJudged {
-    pub tails: CountArray,
-    pub heads: CountArray,
-    pub owing: CountArray,
-    pub kept: bool,
-}
-
-fn broken() -> RulesJudged
-    ensures { result.kept ≡ false }
-{
-    RulesJudged {
-        tails: [0; QUEUE_PLACES],
-        heads: [0; QUEUE_PLACES],
-        owing: [0; QUEUE_PLACES],
-        kept: false,
-    }
-}
-
-// The whole state.
-pub fn judge_rules<'a>(
-    tail: &'a TailArray,
-    head: &'a HeadArray,
-    cells: &'a CellArray,
-    firsts: &'a RingArray,
-    stored: &'a RingArray,
-    regs: Regs,
-) -> RulesJudged
+) -> Option<QueueCounts>
     requires { Long (arrays tail.now head.now cells.now firsts.now stored.now) }
     ensures { RulesSays (state_in regs (arrays tail.now head.now cells.now firsts.now stored.now)) result }
 {
-    if regs_keep(regs) {
-        let l = regs.queues * (regs.block - 1) + 1;
-        if caches::all_below(tail, regs.tail_fill, regs.queues) {
-            if caches::all_below(head, regs.head_fill, regs.queues) {
-                if lookahead::all_below(cells, l, regs.queues) {
-                    let tails = caches::tally(tail, regs.tail_fill);
-                    let heads = caches::tally(head, regs.head_fill);
-                    let owing = lookahead::tally_owed(cells, l);
-                    let kept = queues_keep(firsts, stored, &tails, &heads, &owing, regs);
-                    return RulesJudged {
-                        tails: tails,
-                        heads: heads,
-                        owing: owing,
-                        kept: kept,
-                    };
-                }
-                return broken();
-            }
-            return broken();
-        }
-        return broken();
+    if !regs_keep(regs) {
+        return None;
     }
-    broken()
+    let l = regs.queues * (regs.block - 1) + 1;
+    if !(caches::all_below(tail, regs.tail_fill, regs.queues)
+        && caches::all_below(head, regs.head_fill, regs.queues)
+        && lookahead::all_below(cells, l, regs.queues))
+    {
+        return None;
+    }
+    let counts = QueueCounts {
+        tails: caches::tally(tail, regs.tail_fill),
+        heads: caches::tally(head, regs.head_fill),
+        owing: lookahead::tally_owed(cells, l),
+    };
+    if !queues_keep(firsts, stored, &counts, regs) {
+        return None;
+    }
+    Some(counts)
 }

@@ -4,9 +4,8 @@
 pub mod Cells
 -- The queue's bytes among the first n are at most n.
 pub mod Fills
--- 1 to 3: delivery, arrival, request.
+-- 1 and 3: delivery, request.
 pub mod Delivering
-pub mod Arriving
 pub mod Asking
 -- 4: the write and the read.
 pub mod Places

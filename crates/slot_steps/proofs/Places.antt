@@ -1,8 +1,7 @@
--- A block that a queue has in the store: it lies within the store, and every number on the way to its place is small.
+-- A block that a queue has in the store lies within the store.
 use mathlib.Core.List.{List}
 use Prim.Native.Nat.{ℕ, ◌+◌, ◌*◌, ◌≤◌, ◌<◌}
 use native.Mathlib.Omega.{arith}
-use native.Mathlib.Nat.{mul-le-mul}
 use lib.ListN.{length}
 use Rattle.model.specs.Sizes.{store_bytes}
 use Rattle.model.proofs.basics.Rings.{place_fits}
@@ -21,20 +20,6 @@ pub record InStore (regs : Regs) (store : List ℕ) (q k : ℕ) : Type 0 where
 module _ {regs : Regs} {store : List ℕ} {q k : ℕ} (w : InStore regs store q k) where
   pub queue_in_arrays : q < queue_places
   queue_in_arrays = omega (arith, w.queue_low, w.limits.q_high)
-
-  pub row_small : q * regs.depth ≤ 16320
-  row_small =
-      mul-le-mul {n₁ = q} {m₁ = regs.depth} {n₂ = queue_places} {m₂ = 255} (omega (arith, queue_in_arrays))
-      w.limits.k_high
-
-  pub number_small : q * regs.depth + k ≤ 16575
-  number_small = omega (arith, row_small, w.block_low, w.limits.k_high)
-
-  pub place_small : (q * regs.depth + k) * regs.block ≤ 2121600
-  place_small =
-      mul-le-mul {n₁ = q * regs.depth + k} {m₁ = regs.block} {n₂ = 16575} {m₂ = 128}
-      number_small
-      w.limits.b_high
 
   pub block_in_store : (q * regs.depth + k) * regs.block + regs.block ≤ length store
   block_in_store =

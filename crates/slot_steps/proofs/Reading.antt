@@ -1,21 +1,17 @@
 -- Step 4, the read: bringing the first block of a queue's ring into the head, and freeing that block, is the model's
 -- read.
-use mathlib.Core.Path.{◌≡◌, refl, ap, sym, ◌∙◌}
+use mathlib.Core.Path.{◌≡◌, ap, sym, ◌∙◌}
 use mathlib.Core.Bool.{true}
 use mathlib.Core.List.{List, ◌++◌}
 use mathlib.Core.Option.{some}
 use Prim.Native.Nat.{ℕ, ◌+◌, ◌-◌, ◌*◌, ◌%◌, ◌≤◌, ◌<◌}
 use native.Mathlib.Omega.{arith}
-use native.Mathlib.Nat.{mod-lt}
 use lib.ListN.{length, take, drop, set, get_or, length-set}
 use Rattle.model.specs.Sizes.{paper_limits, accepts, store_bytes}
 use Rattle.model.specs.State.{Ring, ring, ring_of}
 use Rattle.model.specs.Slot.{bytes_for}
 use Rattle.layout.specs.Lengths.{queue_places}
-use Rattle.layout.specs.declared.Chosen.{Chosen}
-use Rattle.layout.specs.declared.Chosen.TheVariants.{Queue, Nothing}
 use Rattle.layout.specs.Entries.{bytes_in, counts_in}
-use Rattle.layout.specs.Calls.{chosen_in}
 use Rattle.caches.specs.Says.{ReadIn}
 use Rattle.layout.specs.declared.Regs.{Regs}
 use Rattle.layout.specs.Views.{sizes_in, rings_in}
@@ -36,52 +32,31 @@ MayRead regs fill head firsts stored q =
 pub record Readable (regs : Regs) (fill : ℕ) (head firsts stored store : List ℕ) (q : ℕ) : Type 0 where
   pub first_block : InStore regs store q (get_or firsts q 0)
   pub room : fill + regs.block ≤ length head
-  pub first_small : get_or firsts q 0 < 255
-  pub next_small : (get_or firsts q 0 + 1) % regs.depth < 255
   pub has_block : 1 ≤ get_or stored q 0
 
-module _ (regs : Regs) (fill : ℕ) (head firsts stored store : List ℕ) (chosen : Chosen) where
-  pub readable : (q : ℕ) → chosen ≡ Queue q
-      → accepts paper_limits (sizes_in regs) ≡ true → store_bytes (sizes_in regs) ≤ length store
-      → ((p : ℕ) → chosen_in chosen ≡ some p → MayRead regs fill head firsts stored p)
-      → Readable regs fill head firsts stored store q
+module _ {regs : Regs} {fill : ℕ} {head firsts stored store : List ℕ} {q : ℕ} where
+  pub readable : accepts paper_limits (sizes_in regs) ≡ true → store_bytes (sizes_in regs) ≤ length store
+      → MayRead regs fill head firsts stored q → Readable regs fill head firsts stored store q
   unfolding counts_in
-  readable q e ok long may =
-      let limits = in_limits regs ok in
-      let facts = may q (ap chosen_in e) in
-      record {
-        first_block = record {
-          limits = limits;
-          store_long = long;
-          queue_low = facts.0;
-          block_low = facts.2;
-        };
-        room = facts.1;
-        first_small = omega (arith, facts.2, limits.k_high);
-        next_small = omega (arith, mod-lt (get_or firsts q 0 + 1) limits.k_low, limits.k_high);
-        has_block = facts.3;
-      }
+  readable ok long may = record {
+    first_block = record {
+      limits = in_limits regs ok;
+      store_long = long;
+      queue_low = may.0;
+      block_low = may.2;
+    };
+    room = may.1;
+    has_block = may.3;
+  }
 
-  pub reads_none : chosen ≡ Nothing → fill ≤ length head
-      → ReadSays (sizes_in regs) fill (chosen_in chosen) firsts stored firsts stored head head store fill
-  reads_none e fits = rw e (record {
-    head_is = refl;
-    rings_are = refl;
-    fill_high = omega arith;
-    fits = fits;
-    same_length = refl;
-    firsts_long = refl;
-    stored_long = refl;
-  })
-
-  pub reads_block : (q : ℕ) (after : List ℕ) → chosen ≡ Queue q → Readable regs fill head firsts stored store q
+  pub reads_block : {after : List ℕ} → Readable regs fill head firsts stored store q
       → length firsts ≡ queue_places → length stored ≡ queue_places
       → ReadIn fill q regs.block ((q * regs.depth + get_or firsts q 0) * regs.block) head after store
-      → ReadSays (sizes_in regs) fill (chosen_in chosen) firsts stored
+      → ReadSays (sizes_in regs) fill (some q) firsts stored
       (set firsts q ((get_or firsts q 0 + 1) % regs.depth)) (set stored q (get_or stored q 0 - 1))
       head after store (fill + regs.block)
   unfolding counts_in
-  reads_block q after e w f-long c-long came = rw e (record {
+  reads_block w f-long c-long came = record {
     head_is =
         came.joined
         ∙ ap (λ (r : Ring).
@@ -97,7 +72,7 @@ module _ (regs : Regs) (fill : ℕ) (head firsts stored store : List ℕ) (chose
     same_length = came.same_length;
     firsts_long = length-set firsts q next;
     stored_long = length-set stored q (get_or stored q 0 - 1);
-  })
+  }
     where
       next : ℕ
       next = (get_or firsts q 0 + 1) % regs.depth

@@ -1,6 +1,6 @@
 -- Step 4, the write: writing a queue's b oldest tail bytes out to the next block of its ring, and counting that block,
 -- is the model's write.
-use mathlib.Core.Path.{◌≡◌, refl, ap, sym, ◌∙◌}
+use mathlib.Core.Path.{◌≡◌, ap, sym, ◌∙◌}
 use mathlib.Core.Bool.{true}
 use mathlib.Core.List.{List}
 use mathlib.Core.Option.{some}
@@ -12,10 +12,7 @@ use Rattle.model.specs.Sizes.{paper_limits, accepts, store_bytes}
 use Rattle.model.specs.State.{Ring, ring, ring_of, values_of, count_of}
 use Rattle.model.specs.Slot.{placed}
 use Rattle.layout.specs.Lengths.{queue_places}
-use Rattle.layout.specs.declared.Chosen.{Chosen}
-use Rattle.layout.specs.declared.Chosen.TheVariants.{Queue, Nothing}
 use Rattle.layout.specs.Entries.{bytes_in, counts_in}
-use Rattle.layout.specs.Calls.{chosen_in}
 use Rattle.caches.specs.Says.{WroteOut}
 use Rattle.layout.specs.declared.Regs.{Regs}
 use Rattle.layout.specs.Views.{sizes_in, rings_in}
@@ -38,50 +35,35 @@ pub record Writable (regs : Regs) (fill : ℕ) (tail firsts stored store : List 
   pub next_block : InStore regs store q ((get_or firsts q 0 + get_or stored q 0) % regs.depth)
   pub bytes_wait : regs.block ≤ count_of q (bytes_in fill tail)
   pub block_in_fill : regs.block ≤ fill
-  pub first_small : get_or firsts q 0 < 255
   pub count_small : get_or stored q 0 < 255
 
-module _ (regs : Regs) (fill : ℕ) (tail firsts stored store : List ℕ) (written : Chosen) where
-  pub writable : (q : ℕ) → written ≡ Queue q
-      → fill ≤ length tail → accepts paper_limits (sizes_in regs) ≡ true → store_bytes (sizes_in regs) ≤ length store
-      → ((p : ℕ) → chosen_in written ≡ some p → MayWrite regs fill tail firsts stored p)
-      → Writable regs fill tail firsts stored store q
+module _ {regs : Regs} {fill : ℕ} {tail firsts stored store : List ℕ} {q : ℕ} where
+  pub writable : fill ≤ length tail → accepts paper_limits (sizes_in regs) ≡ true
+      → store_bytes (sizes_in regs) ≤ length store
+      → MayWrite regs fill tail firsts stored q → Writable regs fill tail firsts stored store q
   unfolding counts_in
-  writable q e fits ok long may =
+  writable fits ok long may =
       let limits = in_limits regs ok in
-      let facts = may q (ap chosen_in e) in
       record {
         next_block = record {
           limits = limits;
           store_long = long;
-          queue_low = facts.0;
+          queue_low = may.0;
           block_low = mod-lt (get_or firsts q 0 + get_or stored q 0) limits.k_low;
         };
-        bytes_wait = facts.1;
-        block_in_fill = omega (arith, facts.1, count_in_fill q fill tail fits);
-        first_small = omega (arith, facts.2, limits.k_high);
-        count_small = omega (arith, facts.3, limits.k_high);
+        bytes_wait = may.1;
+        block_in_fill = omega (arith, may.1, count_in_fill q fill tail fits);
+        count_small = omega (arith, may.3, limits.k_high);
       }
 
-  pub writes_none : written ≡ Nothing
-      → WriteSays (sizes_in regs) fill (chosen_in written) firsts stored stored tail tail store store fill
-  writes_none e = rw e (record {
-    tail_is = refl;
-    rings_are = refl;
-    store_is = refl;
-    fill_low = omega arith;
-    same_length = refl;
-    stored_long = refl;
-  })
-
-  pub writes_block : (q : ℕ) (after store' : List ℕ) → written ≡ Queue q
+  pub writes_block : {after store' : List ℕ}
       → Writable regs fill tail firsts stored store q → length stored ≡ queue_places
       → WroteOut fill q regs.block
       ((q * regs.depth + (get_or firsts q 0 + get_or stored q 0) % regs.depth) * regs.block) tail after store store'
-      → WriteSays (sizes_in regs) fill (chosen_in written) firsts stored (set stored q (get_or stored q 0 + 1)) tail after
+      → WriteSays (sizes_in regs) fill (some q) firsts stored (set stored q (get_or stored q 0 + 1)) tail after
       store store' (fill - regs.block)
   unfolding counts_in
-  writes_block q after store' e w c-long wrote = rw e (record {
+  writes_block w c-long wrote = record {
     tail_is = wrote.left;
     rings_are =
         rings_counted regs.queues firsts stored q (get_or stored q 0 + 1) low
@@ -95,7 +77,7 @@ module _ (regs : Regs) (fill : ℕ) (tail firsts stored store : List ℕ) (writt
     fill_low = omega arith;
     same_length = wrote.same_length;
     stored_long = length-set stored q (get_or stored q 0 + 1);
-  })
+  }
     where
       rings : List Ring
       rings = rings_in regs.queues firsts stored

@@ -5,22 +5,20 @@ ghost use Rattle.std.specs.Prelude.{◌≡◌, true, false, ℕ, ◌+◌, ◌-�
 ghost use Rattle.std.proofs.Math.Option.{some};
 ghost use Rattle.model.specs.Basics.{choose};
 ghost use Rattle.model.specs.Sizes.{paper_limits, accepts, store_bytes};
-ghost use Rattle.model.specs.State.{Byte, owed, count_of};
-ghost use Rattle.layout.specs.Lengths.{queue_places};
+ghost use Rattle.model.specs.State as state;
+ghost use Rattle.model.specs.State.{owed, count_of};
 ghost use Rattle.layout.specs.Entries.{bytes_in, counts_in, cell_of};
 ghost use Rattle.layout.specs.Calls.{chosen_in, arrival_in, request_in};
 ghost use Rattle.layout.specs.Views.{sizes_in};
 ghost use Rattle.slot_steps.specs.Says.{DeliverSays, ArriveSays, AskSays, WriteSays, ReadSays};
 
-use layout::{
-    Arrival, Chosen, Delivery, HELD, HeadArray, OWED, Regs, Request, RingArray, TailArray,
-};
+use layout::{Byte, EMPTY, HELD, HeadArray, OWED, Regs, RingArray, TailArray};
 
 // What the leaving cell delivers, and the head's fill then.
-#[derive(Drop)]
+#[derive(Clone, Copy)]
 pub struct CellDelivered {
     pub fill: usize,
-    pub delivery: Delivery,
+    pub delivery: Option<Byte>,
 }
 
 // 1. "Held delivers its own byte. Owed delivers the oldest head byte of its queue. Empty delivers nothing."
@@ -31,69 +29,57 @@ pub fn deliver(head: &mut HeadArray, fill: usize, cell: u32) -> CellDelivered
 {
     let queue = (cell / 256 % 256) as u8;
     if OWED <= cell {
-        let v = caches::take_oldest(head, fill, queue as u16);
+        let value = caches::take_oldest(head, fill, queue as u16);
         return CellDelivered {
             fill: fill - 1,
-            delivery: Delivery::Gives(queue, v),
+            delivery: Some(Byte { queue, value }),
         };
     }
-    if HELD <= cell {
-        return CellDelivered {
-            fill: fill,
-            delivery: Delivery::Gives(queue, (cell % 256) as u8),
-        };
-    }
+    let value = (cell % 256) as u8;
     CellDelivered {
-        fill: fill,
-        delivery: Delivery::NoDelivery,
+        fill,
+        delivery: (HELD <= cell).then_some(Byte { queue, value }),
     }
 }
 
 // 2. "The arriving byte joins the tail."
-pub fn arrive(tail: &mut TailArray, fill: usize, arrival: Arrival) -> usize
-    requires { (fill ≤ length tail.old) × ((y : Byte) → arrival_in arrival ≡ some y → fill < length tail.old) }
+pub fn arrive(tail: &mut TailArray, fill: usize, arrival: Option<Byte>) -> usize
+    requires { (fill ≤ length tail.old) × ((y : state.Byte) → arrival_in arrival ≡ some y → fill < length tail.old) }
     ensures { ArriveSays fill (arrival_in arrival) tail.old tail.new result }
 {
-    match arrival {
-        Arrival::NoArrival => fill,
-        Arrival::Comes(queue, value) => {
-            caches::join(tail, fill, queue, value);
-            fill + 1
-        }
-    }
+    let Some(Byte { queue, value }) = arrival else {
+        return fill;
+    };
+    caches::join(tail, fill, queue, value);
+    fill + 1
 }
 
 // The cell that a request takes, and the tail's fill then.
-#[derive(Drop)]
+#[derive(Clone, Copy)]
 pub struct Asked {
     pub fill: usize,
     pub cell: u32,
 }
 
 // 3. The request's cell: Owed, or Held with the oldest tail byte of its queue.
-pub fn ask(tail: &mut TailArray, fill: usize, owes: bool, request: Request) -> Asked
+pub fn ask(tail: &mut TailArray, fill: usize, owes: bool, request: Option<u8>) -> Asked
     requires { (fill ≤ length tail.old)
         × ((q : ℕ) → request_in request ≡ some q → owes ≡ false → 1 ≤ count_of q (bytes_in fill tail.old)) }
     ensures { AskSays fill owes (request_in request) tail.old tail.new result }
 {
-    match request {
-        Request::NoRequest => Asked {
-            fill: fill,
-            cell: 0,
-        },
-        Request::Asks(queue) => {
-            if owes {
-                return Asked {
-                    fill: fill,
-                    cell: OWED + (queue as u32) * 256,
-                };
-            }
-            let v = caches::take_oldest(tail, fill, queue as u16);
-            Asked {
-                fill: fill - 1,
-                cell: HELD + (queue as u32) * 256 + (v as u32),
-            }
-        }
+    let Some(queue) = request else {
+        return Asked { fill, cell: EMPTY };
+    };
+    if owes {
+        return Asked {
+            fill,
+            cell: OWED + (queue as u32) * 256,
+        };
+    }
+    let value = caches::take_oldest(tail, fill, queue as u16);
+    Asked {
+        fill: fill - 1,
+        cell: HELD + (queue as u32) * 256 + (value as u32),
     }
 }
 
@@ -104,38 +90,27 @@ pub fn write(
     stored: &mut RingArray,
     regs: Regs,
     fill: usize,
-    written: Chosen,
+    written: Option<u8>,
     store: &mut [u8],
 ) -> usize
     requires { (fill ≤ length tail.old) × (accepts paper_limits (sizes_in regs) ≡ true)
         × (store_bytes (sizes_in regs) ≤ length store.old)
-        × (length firsts.now ≡ queue_places) × (length stored.old ≡ queue_places)
         × ((q : ℕ) → chosen_in written ≡ some q → (q < regs.queues)
         × (regs.block ≤ count_of q (bytes_in fill tail.old))
         × (counts_in firsts.now q < regs.depth) × (counts_in stored.old q < regs.depth)) }
     ensures { WriteSays (sizes_in regs) fill (chosen_in written) firsts.now stored.old
         stored.new tail.old tail.new store.old store.new result }
 {
-    match written {
-        Chosen::Nothing => fill,
-        Chosen::Queue(queue) => {
-            let q = queue as usize;
-            let b = regs.block;
-            let k = regs.depth;
-            let first = firsts[q] as usize;
-            let count = stored[q] as usize;
-            caches::write_out(
-                tail,
-                fill,
-                queue as u16,
-                b,
-                store,
-                (q * k + (first + count) % k) * b,
-            );
-            stored[q] = stored[q] + 1;
-            fill - b
-        }
-    }
+    let Some(queue) = written else {
+        return fill;
+    };
+    let Regs { block, depth, .. } = regs;
+    let q = queue as usize;
+    let next = (firsts[q] as usize + stored[q] as usize) % depth;
+    let place = (q * depth + next) * block;
+    caches::write_out(tail, fill, queue as u16, block, store, place);
+    stored[q] += 1;
+    fill - block
 }
 
 // 4. The read.
@@ -145,30 +120,27 @@ pub fn read(
     stored: &mut RingArray,
     regs: Regs,
     fill: usize,
-    chosen: Chosen,
+    chosen: Option<u8>,
     store: &[u8],
 ) -> usize
     requires { (fill ≤ length head.old) × (accepts paper_limits (sizes_in regs) ≡ true)
         × (store_bytes (sizes_in regs) ≤ length store.now)
-        × (length firsts.old ≡ queue_places) × (length stored.old ≡ queue_places)
         × ((q : ℕ) → chosen_in chosen ≡ some q → (q < regs.queues) × (fill + regs.block ≤ length head.old)
         × (counts_in firsts.old q < regs.depth) × (1 ≤ counts_in stored.old q)) }
     ensures { ReadSays (sizes_in regs) fill (chosen_in chosen) firsts.old stored.old
         firsts.new stored.new head.old head.new store.now result }
 {
-    match chosen {
-        Chosen::Nothing => fill,
-        Chosen::Queue(queue) => {
-            let q = queue as usize;
-            let b = regs.block;
-            let k = regs.depth;
-            let first = firsts[q] as usize;
-            caches::read_in(head, fill, queue, b, store, (q * k + first) * b);
-            firsts[q] = ((first + 1) % k) as u8;
-            stored[q] = stored[q] - 1;
-            fill + b
-        }
-    }
+    let Some(queue) = chosen else {
+        return fill;
+    };
+    let Regs { block, depth, .. } = regs;
+    let q = queue as usize;
+    let first = firsts[q] as usize;
+    let place = (q * depth + first) * block;
+    caches::read_in(head, fill, queue, block, store, place);
+    firsts[q] = ((first + 1) % depth) as u8;
+    stored[q] -= 1;
+    fill + block
 }
 
 // 5. "The phase rises by one, and after b - 1 comes 0."
@@ -176,8 +148,6 @@ pub fn next_phase(phase: usize, block: usize) -> usize
     requires { phase < block }
     ensures { result ≡ choose (eqb phase (block - 1)) 0 (phase + 1) }
 {
-    if phase + 1 == block {
-        return 0;
-    }
-    phase + 1
+    let next = phase + 1;
+    if next == block { 0 } else { next }
 }

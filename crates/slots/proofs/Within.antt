@@ -7,15 +7,15 @@ use Prim.Native.Nat.{ℕ, ◌≤◌}
 use lib.ListN.{length, take, drop, replicate}
 use lib.Seq.{take-append_seam}
 use borrow.Author.Tests.{le-ltb}
+use Rattle.std.specs.Prelude.{Result, Ok}
 use Rattle.model.specs.Basics.{choose}
 use Rattle.model.proofs.basics.Tests.{some_inj}
 use Rattle.script_lines.specs.Lines.{text}
 use Rattle.script_text.specs.Run.{script_lines, store_lent, program_text, output_bound}
-use Rattle.script_runner.specs.declared.Ran.{Ran}
-use Rattle.script_runner.specs.declared.Ran.TheVariants.{Printed}
+use Rattle.script_runner.specs.declared.OutputTooShort.{OutputTooShort}
 use Rattle.script_runner.specs.Says.{printed_in, short, ScriptSays}
 
-module _ {script store output : List ℕ} (room : output_bound (length script) ≤ length output) {r : Ran}
+module _ {script store output : List ℕ} (room : output_bound (length script) ≤ length output) {r : Result ℕ OutputTooShort}
     {store' output' : List ℕ} (says : ScriptSays script store output r store' output') where
   abbrev printed : List ℕ
   printed = text (script_lines script store)
@@ -26,7 +26,7 @@ module _ {script store output : List ℕ} (room : output_bound (length script) �
   all_printed : printed_in r ≡ some (length printed)
   all_printed = says.answer-is ∙ ap (λ (b : Bool). choose b none (some (length printed))) enough
 
-  module _ {n : ℕ} (is : r ≡ Printed n) where
+  module _ {n : ℕ} (is : r ≡ Ok n) where
     n_is : n ≡ length printed
     n_is = some_inj n (length printed) (sym (ap printed_in is) ∙ all_printed)
 

@@ -1,5 +1,5 @@
 -- What the program's parts promise of the text that is written.
-use Rattle.std.specs.Prelude.{◌≡◌, false, List, ℕ, take}
+use Rattle.std.specs.Prelude.{◌≡◌, List, ℕ, take}
 use Rattle.io.specs.Counts.{IsPrefixLen}
 use Rattle.script_text.specs.Run.{most_bytes, output_bound, program_text}
 use Rattle.slots.specs.declared.Answer.{Answer}
@@ -14,8 +14,8 @@ pub record IsProgramText (text : List ℕ) : Type 0 where
   pub input : List ℕ
   pub text-is : text ≡ program_text input
 
--- Where no read failed, the output begins with the text of the bytes that were read.
+-- The output begins with the text of the bytes that were read.
 pub record AnswerSays (input : List ℕ) (r : Answer) (output : List ℕ) : Type 0 where
   pub read_within : IsPrefixLen r.read input
   pub printed_within : IsPrefixLen r.printed output
-  pub text-is : r.failed ≡ false → take r.printed output ≡ program_text (take r.read input)
+  pub text-is : take r.printed output ≡ program_text (take r.read input)

@@ -2,13 +2,14 @@
 // decides nothing: `script_runner::run_script` has the text.
 #![tactic(auto)]
 
-ghost use Rattle.std.specs.Prelude.{◌≡◌, ◌≤◌, ◌<◌, true, length, take, IsSome};
+ghost use Rattle.std.specs.Prelude.{◌≡◌, ◌≤◌, ◌<◌, length, take, IfOk, IfErr};
 ghost use Rattle.io.specs.Counts.{IsPrefixLen};
 ghost use Rattle.script_text.specs.Run.{most_bytes, program_text, output_bound};
 ghost use Rattle.slots.specs.Says.{most_output, IsProgramText, AnswerSays};
 
-use script_runner::Ran;
-use std::io::{Error, Print, Read, Result};
+use program_input::Failure;
+use std::io;
+use std::io::{Print, Read};
 
 // One byte more than a script may have. A longer input need not be read on: a full buffer is over the length of a
 // script, so that what follows it changes nothing (`program_reads_enough`, `longer_input_prints_alike`).
@@ -34,52 +35,36 @@ fn print_script(script: &[u8], output: &mut [u8]) -> usize
     ensures prefix_len { IsPrefixLen result output.new }
 {
     let mut store = [0u8; STORE];
-    let ran = script_runner::run_script(script, &mut store, output);
-    match ran {
-        Ran::Printed(n) => n,
-        Ran::TooShort => 0,
-    }
+    script_runner::run_script(script, &mut store, output).unwrap()
 }
 
-// What came of the input: how many bytes it has, how many its text has, and whether a read failed, with what it failed.
-#[derive(Drop)]
+// What came of the input: how many bytes it has, and how many its text has.
+#[derive(Clone, Copy)]
 struct Answer {
     read: usize,
     printed: usize,
-    failed: bool,
-    error: Option<Error>,
 }
 
 // Reads the input and puts its text at the start of the output. Where a read failed, nothing is run: what was read is
 // no whole input, and nothing is printed.
-fn answer_input<R: Read>(from: &mut R, input: &mut [u8], output: &mut [u8]) -> Answer
+fn answer_input<R: Read>(
+    from: &mut R,
+    input: &mut [u8],
+    output: &mut [u8],
+) -> Result<Answer, Failure>
     requires most_bytes_in_bounds { most_bytes < length input.old }
     requires most_output_in_bounds { most_output ≤ length output.old }
-    ensures says { AnswerSays input.new result output.new }
-    ensures told { result.failed ≡ true → IsSome result.error }
+    ensures says { IfOk result (λ answer. AnswerSays input.new answer output.new) }
+    ensures failed { IfErr result (λ failure. IsPrefixLen failure.length input.new) }
 {
-    let found = program_input::read_all(from, input);
-    let read = found.length;
-    if found.failed {
-        return Answer {
-            read: read,
-            printed: 0,
-            failed: true,
-            error: found.error,
-        };
-    }
+    let read = program_input::read_all(from, input)?;
     let printed = print_script(&input[..read], output);
-    Answer {
-        read: read,
-        printed: printed,
-        failed: false,
-        error: None,
-    }
+    Ok(Answer { read, printed })
 }
 
 // Writes a text of the program's. No contract can say what the system writes: so it is said, and proved in `main`, of
 // what is handed over to be written, which is all that this function has.
-fn write_text(to: &impl Print, text: &[u8]) -> Result<()>
+fn write_text(to: &impl Print, text: &[u8]) -> io::Result<()>
     requires { IsProgramText text.now }
 {
     to.write_all(text)
@@ -89,15 +74,14 @@ fn main(rt: HostRuntime) {
     let mut input = [0u8; INPUT];
     let mut output = output_room();
     let mut from = rt.stdin();
-    let answer = answer_input(&mut from, &mut input, &mut output);
-    if answer.failed {
-        let error = answer.error.unwrap();
-        program_input::fail(&rt, "slots", "standard input", &error);
-        return;
-    }
-    let printed = answer.printed;
-    match write_text(&rt, &output[..printed]) {
-        Ok(()) => {}
-        Err(error) => program_input::fail(&rt, "slots", "standard output", &error),
+    let answer = match answer_input(&mut from, &mut input, &mut output) {
+        Ok(answer) => answer,
+        Err(failure) => {
+            program_input::fail(&rt, "slots", "standard input", &failure.error);
+            return;
+        }
+    };
+    if let Err(error) = write_text(&rt, &output[..answer.printed]) {
+        program_input::fail(&rt, "slots", "standard output", &error);
     }
 }

@@ -13,11 +13,11 @@ returns-then-can_ask c =
     (arrival_in a.arrival) _
     (c.counted-coming.ensures
     ∙ counted_by_tails a.regs a.tails.now a.heads.now a.owing.now a.stored.now (arrival_in a.arrival))
-    c.loop-left-test.true (sym c.if-can_ask.true ∙ c.can_ask.ensures) c.loop-left.invariant
+    c.loop-test.true (sym c.if-can_ask.true ∙ c.can_ask.ensures) c.loop.invariant
 
-pub loop-left-preserved : goal.loop-left-preserved
-loop-left-preserved c =
+pub loop-preserved : goal.loop-preserved
+loop-preserved c =
     let a = c.args in
     looks_on (figures_in a.regs (by_queue a.tails.now a.heads.now a.owing.now) a.stored.now) a.regs.last_asked
-    (arrival_in a.arrival) _ c.loop-left-test.true (sym c.if-can_ask.false ∙ c.can_ask.ensures)
-    c.queue_after-q-in-loop-left.ensures c.loop-left.invariant
+    (arrival_in a.arrival) _ c.loop-test.true (sym c.if-can_ask.false ∙ c.can_ask.ensures)
+    c.queue_after-q-in-loop.ensures c.loop.invariant

@@ -4,7 +4,7 @@ use Rattle.std.proofs.Math.Option.{Option}
 use Rattle.model.specs.Slot.{Call}
 use Rattle.model.specs.Lists.{taken}
 use Rattle.model.specs.Arbiter.{choice}
-use Rattle.layout.specs.Calls.{arrival_in, request_in}
+use Rattle.layout.specs.Calls.{arrival_in, request_in, reply_in}
 use Rattle.layout.specs.Counts.{by_queue}
 use Rattle.layout.specs.declared.Regs.{Regs}
 use Rattle.layout.specs.Figures.{figures_in}
@@ -29,5 +29,5 @@ returns c =
     (ap (λ (call : Call). call ∷ [])
     (c.call_word.ensures ∙ ap (λ (o : Option ℕ). record { arrival = arrival_in a.arrival; request = o }) made)))
     c.asked_of-asked.result
-    (c.asked_of-asked.ensures ∙ ap (taken c.run_calls-reply.result.number) made)
+    (c.asked_of-asked.ensures ∙ ap (taken (reply_in c.run_calls-reply.result).number) made)
     c.note.ensures

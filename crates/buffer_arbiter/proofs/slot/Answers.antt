@@ -5,4 +5,4 @@ use Rattle.buffer_arbiter.proofs.slot.Goals as goal
 pub returns : goal.returns
 returns c =
     by_value c.args.state _
-    c.put_regs.ensures c.regs_in-next.ensures c.slot-answer.ensures.0
+    c.put_regs.ensures c.regs_in-state.ensures c.slot-answer.ensures.0

@@ -1,7 +1,6 @@
 -- `fullest_of` meets its contract: what was found is the fullest of the first i queues, and `least` is what the next
 -- must have.
-use mathlib.Core.Path.{◌≡◌}
-use Prim.Native.Nat.{◌-◌, ◌≤◌}
+use Rattle.std.proofs.Common.{◌≡◌}
 use Rattle.model.specs.Slot.{fullest}
 use Rattle.layout.specs.Entries.{counts_in}
 use Rattle.layout.specs.Calls.{chosen_in}
@@ -10,8 +9,5 @@ use Rattle.buffer_choices.proofs.fullest_of.Given as goal
 
 abbrev pub invariant-loop-i : goal.invariant-loop-i
 invariant-loop-i l =
-    (l.i ≤ l.n) × (chosen_in l.found ≡ fullest l.b (counts_in l.counts) l.i)
+    (chosen_in l.found ≡ fullest l.b (counts_in l.counts) l.i)
     × (l.least ≡ least_of l.b (counts_in l.counts) (fullest l.b (counts_in l.counts) l.i))
-
-abbrev pub decreases-loop-i : goal.decreases-loop-i
-decreases-loop-i l = l.n - l.i

@@ -1,22 +1,23 @@
 -- `stored_blocks` meets its contract: a queue past the last has no block, nor has one past the array.
-use mathlib.Core.Path.{sym}
-use native.Mathlib.Omega.{arith}
-use Rattle.buffer_choices.proofs.Stored.{blocks-past, blocks-beyond, blocks-known}
+use Rattle.std.proofs.Common.{◌≡◌, ◌<◌, ◌≤◌, sym, ◌∙◌, length, take, get_or, arith, rules}
+use lib.Seq.{length-take-le, get_or-take}
+use Rattle.buffer_choices.proofs.Stored.{blocks_outside, blocks-known}
 use Rattle.buffer_choices.proofs.stored_blocks.Goals as goal
 
-pub returns-then-queues-q : goal.returns-then-queues-q
-returns-then-queues-q c =
+pub returns-in-Some : goal.returns-in-Some
+returns-in-Some c =
     let a = c.args in
-    (sym (blocks-past a.queues a.stored.now a.queue c.if-queues-q.true), omega arith)
+    let n = c.min.result in
+    let inside : a.queue < length (take n a.stored.now) = search rules in
+    let found : c.in-Some.field-0.now ≡ get_or (take n a.stored.now) a.queue 0 = search rules in
+    let low : a.queue < n = omega (arith, inside, length-take-le n a.stored.now (omega (arith, c.min.ensures))) in
+    let here : c.in-Some.field-0.now ≡ get_or a.stored.now a.queue 0 = found ∙ get_or-take n a.stored.now a.queue 0 low in
+    (here ∙ sym (blocks-known a.queues a.stored.now a.queue (omega (arith, low, c.min.ensures))), omega (arith, here, c.fits-stored a.queue))
 
-pub returns-then-q-ge-QUEUE_PLACES : goal.returns-then-q-ge-QUEUE_PLACES
-returns-then-q-ge-QUEUE_PLACES c =
+pub returns-in-None : goal.returns-in-None
+returns-in-None c =
     let a = c.args in
-    (sym (blocks-beyond a.queues a.stored.now a.queue (omega (arith, c.requires, c.if-q-ge-QUEUE_PLACES.true))), omega arith)
-
-pub returns : goal.returns
-returns c =
-    let a = c.args in (
-      sym (blocks-known a.queues a.stored.now a.queue (omega (arith, c.if-queues-q.false))),
-      omega (arith, c.shared_slice_known-1.given a.queue),
-    )
+    let n = c.min.result in
+    let past : length (take n a.stored.now) ≤ a.queue = search rules in
+    let taken : length (take n a.stored.now) ≡ n = length-take-le n a.stored.now (omega (arith, c.min.ensures)) in
+    (sym (blocks_outside a.queues a.stored.now a.queue (omega (arith, past, taken, c.min.ensures, c.told-stored))), omega arith)

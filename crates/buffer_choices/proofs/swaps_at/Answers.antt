@@ -7,9 +7,6 @@ use Rattle.buffer_choices.proofs.Swapping.{full-counted, room_swaps_not, full-sw
 use Rattle.buffer_choices.proofs.swaps_at.Goals as goal
 use Rattle.buffer_choices.proofs.swaps_at.Goals.{After-is_full}
 
-pub is_full-requires : goal.is_full-requires
-is_full-requires c = (c.tail_bytes-bytes.ensures.1, c.stored_blocks-blocks.ensures.1)
-
 -- The code's test of the space is the paper's.
 full_is : (c : After-is_full)
     → let a = c.args in c.is_full.result ≡ is_full (state_of a.state) a.queue
@@ -24,7 +21,8 @@ returns-then-is_full c =
     full-swaps (state_of a.state) a.queue (omega (arith, c.tail_bytes-bytes.ensures.0))
     (sym (full_is (goal.at.returns-then-is_full c).After-is_full) ∙ c.if-is_full.true) c.owes.ensures
 
-pub returns : goal.returns
-returns c =
+pub returns-else-is_full : goal.returns-else-is_full
+returns-else-is_full c =
     let a = c.args in
-    room_swaps_not (state_of a.state) a.queue (sym (full_is (goal.at.returns c).After-is_full) ∙ c.if-is_full.false)
+    c.if-is_full.false
+    ∙ room_swaps_not (state_of a.state) a.queue (sym (full_is (goal.at.returns-else-is_full c).After-is_full) ∙ c.if-is_full.false)

@@ -11,4 +11,4 @@ pub returns : goal.returns
 returns c =
     let s = c.args.state in
     let long : length s.tail ≡ tail_places = search rules in
-    tail_counted s.regs (arrays_of s) c.args.queue long c.smaller.ensures c.tally-tails.ensures
+    tail_counted s.regs (arrays_of s) c.args.queue long c.min.ensures c.tally-tails.ensures

@@ -2,5 +2,5 @@
 use Rattle.c_scripts.proofs.Running.{ran_is}
 use Rattle.c_scripts.proofs.script_run.Goals as goal
 
-pub returns-in-Printed : goal.returns-in-Printed
-returns-in-Printed c = ran_is c.run_script-ran.ensures c.in-Printed.is
+pub returns : goal.returns
+returns c = ran_is c.run_script.ensures c.unwrap_or.ensures

@@ -1,9 +1,6 @@
--- `script_write` meets its contract: an unknown code and numbers that do not fit are refused, the rest is the
--- writer's answer.
-use Rattle.c_scripts.proofs.Writing.{fitting-written}
+-- `script_write` meets its contract: numbers that name no command are refused, the rest is the writer's answer.
+use Rattle.c_scripts.proofs.Writing.{named-written}
 use Rattle.c_scripts.proofs.script_write.Goals as goal
 
-pub returns : goal.returns
-returns c =
-    fitting-written c.args.command c.args.output.now _ c.command_named-named.ensures c.in-Known.is c.numbers_of.ensures
-    c.same_operands.ensures c.if-not-same_operands.false c.write-written.ensures
+pub returns-in-Ok : goal.returns-in-Ok
+returns-in-Ok c = rw c.into.ensures (named-written c.args.command c.args.output.now c.in-Ok.ensures c.write.ensures)

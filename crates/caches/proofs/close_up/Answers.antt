@@ -7,10 +7,6 @@ use Rattle.caches.proofs.close_up.Goals as goal
 
 pub returns : goal.returns
 returns c =
-    let start = c in
-    let a = start.args in
+    let a = c.args in
     let whole : a.p + (a.n - a.p) ≡ a.n = omega arith in
-    let part = c.move_down.new.entries in
-    rw whole at
-    (closed-within a.p (a.n - a.p) a.entries.now part (omega arith) (omega arith)
-    c.move_down.ensures)
+    rw whole at (closed-within a.p (a.n - a.p) a.entries.now c.copy_within.new.self (omega arith) (omega arith) c.copy_within.ensures.after)

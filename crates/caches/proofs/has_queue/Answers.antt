@@ -1,23 +1,18 @@
--- `caches::has_queue` meets its contract: as long as nothing was found, none of the entries passed is of the queue.
-use mathlib.Core.Path.{◌≡◌}
-use native.Mathlib.Omega.{arith}
-use borrow.Author.Count.{below_more}
-use borrow.Author.Tests.{eqb-false}
+-- `caches::has_queue` meets its contract: the fold is true from the first entry of the queue on.
+use mathlib.Core.Path.{sym, ◌∙◌}
+use mathlib.Core.Bool.{false, ◌||◌}
+use Prim.Native.Nat.{◌/◌}
+use borrow.Author.Rules.{rules}
+use borrow.Author.Tests.{tests}
+use lib.Dec.{eqb}
+use Rattle.std.proofs.lemmas.Iterator.{YieldsList-from_slice}
+use Rattle.std.proofs.lemmas.Iterator.Consumers.{fold_from_yields_List}
+use Rattle.caches.proofs.Places.{none-folded}
 use Rattle.caches.proofs.has_queue.Goals as goal
-use Rattle.caches.proofs.has_queue.Goals.{then-entries-at, else-entries-at}
-
-pub loop-i-preserved : goal.loop-i-preserved
-loop-i-preserved c =
-    let l = c.loop-i in
-    elim c.if-entries-at.branch [
-      | then-entries-at w ↦ (omega arith, omega arith, λ e. absurd (omega arith))
-      | else-entries-at w ↦ (omega arith, omega arith, λ e. below_more _ _ (l.invariant.2 (omega arith)) w.if-entries-at.false)
-    ]
 
 pub returns : goal.returns
 returns c =
-    let l = c.loop-i in
-    let all_seen : l.i ≡ 32 = omega arith in
-    λ e.
-    let none_found : l.found ≡ 0 = omega (arith, eqb-false l.found 1 e) in
-    rw all_seen at (l.invariant.2 none_found)
+    let a = c.args in
+    let is_fold = fold_from_yields_List _ (λ found x. found || eqb (x / 256) a.q) false c.fold.result c.fold.ensures.ran
+    (YieldsList-from_slice a.chunk.now cc) (λ f x b q k. search (rules, tests)) in
+    λ e. none-folded a.q a.chunk.now (sym is_fold ∙ e)

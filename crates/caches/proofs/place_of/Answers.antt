@@ -1,27 +1,32 @@
--- `caches::place_of` meets its contract: none before place i is of the queue, so the first that is has the place.
-use native.Mathlib.Nat.{zero-add}
-use native.Mathlib.Omega.{arith}
-use borrow.Author.Count.{below_more}
-use Rattle.caches.proofs.Places.{search_ends}
+-- `caches::place_of` meets its contract: none before the place that the chain finds is of the queue.
+use mathlib.Core.Path.{◌≡◌, sym, ◌∙◌}
+use Prim.Native.Nat.{◌/◌}
+use borrow.Author.Rules.{rules}
+use borrow.Author.Tests.{tests}
+use lib.ListN.{length, take}
+use lib.Seq.{length-take-le}
+use Rattle.std.proofs.lemmas.Iterator.{YieldsList-from_slice, IsFirst-from_position}
+use Rattle.layout.specs.Entries.{bytes_in}
+use Rattle.caches.proofs.Places.{place_found, place_none}
 use Rattle.caches.proofs.place_of.Goals as goal
 
-pub loop-i-preserved : goal.loop-i-preserved
-loop-i-preserved c =
-    let l = c.loop-i in
-    (omega arith, below_more _ _ l.invariant.1 (λ e. c.if-entries-i.false (rw zero-add at e)))
+pub returns-in-Some : goal.returns-in-Some
+unfolding bytes_in
+returns-in-Some c =
+    let a = c.args in
+    let before = c.skip_to-start.ensures in
+    let found =
+    IsFirst-from_position _ _ c.position.result (λ x. x / 256 ≡ a.q) (λ x. x / 256 ≡ a.q → ⊥) c.position.ensures.ran
+    (YieldsList-from_slice _ c.iter.ensures.rest) (λ x q k. search (rules, tests)) (λ x q k. search (rules, tests)) in
+    place_found a.q (take a.n a.entries.now) c.skip_to-start.result before.0 before.1 c.in-Some.further (rw c.in-Some.is at found)
 
-pub returns-after-loop-i : goal.returns-after-loop-i
-returns-after-loop-i c =
-    let start = c in
-    let a = start.args in
-    let l = c.loop-i in
-    search_ends a.q a.n a.entries.now l.i start.requires l.invariant.0 l.invariant.1
-    (λ m. absurd (omega arith))
-
-pub returns-then-entries-i : goal.returns-then-entries-i
-returns-then-entries-i c =
-    let start = c in
-    let a = start.args in
-    let l = c.loop-i in
-    search_ends a.q a.n a.entries.now l.i start.requires l.invariant.0 l.invariant.1
-    (λ m. c.if-entries-i.true)
+pub returns-in-None : goal.returns-in-None
+unfolding bytes_in
+returns-in-None c =
+    let a = c.args in
+    let before = c.skip_to-start.ensures in
+    let all : length (take a.n a.entries.now) ≡ a.n = length-take-le a.n a.entries.now c.requires in
+    let found =
+    IsFirst-from_position _ _ c.position.result (λ x. x / 256 ≡ a.q) (λ x. x / 256 ≡ a.q → ⊥) c.position.ensures.ran
+    (YieldsList-from_slice _ c.iter.ensures.rest) (λ x q k. search (rules, tests)) (λ x q k. search (rules, tests)) in
+    sym all ∙ place_none a.q (take a.n a.entries.now) c.skip_to-start.result before.0 before.1 (rw c.in-None.is at found)

@@ -6,8 +6,7 @@ use native.Mathlib.Omega.{arith}
 use lib.Dec.{eqb}
 use lib.ListN.{get_or}
 use mir.Val.{bool_byte}
-use Rattle.caches.proofs.Writing.{keeping_goes, pass_ends}
-use Rattle.caches.proofs.Writing.{sending_starts, sending_goes, sending_ends, more_to_see}
+use Rattle.caches.proofs.Writing.{sending_starts, sending_goes, sending_ends, pass_ends, more_to_see}
 use Rattle.caches.proofs.write_out.Goals as goal
 use Rattle.caches.proofs.write_out.Goals.{In-loop-gone}
 
@@ -54,25 +53,20 @@ loop-gone-preserved c =
     sending_goes a.n a.q a.b a.place a.entries.now a.store.now
     l.entries l.store l.gone l.i l.invariant start.requires.0 start.requires.1 (omega arith) (is-more (goal.at.loop-gone-preserved c).In-loop-gone)
 
-pub loop-i-preserved : goal.loop-i-preserved
-loop-i-preserved c =
-    let a = c.args in
-    let l = c.loop-gone in
-    let l2 = c.loop-i in
-    keeping_goes a.n a.q a.b a.place l.entries l.store l.gone l.i
-    l2.entries l2.i l2.invariant (omega arith)
+pub copy_within-requires : goal.copy_within-requires
+copy_within-requires c =
+    let w = c.loop-gone.invariant.passed in
+    record {
+      start_le_end = w.within;
+      in_bounds = omega (arith, w.long);
+      dest_in_bounds = omega (arith, w.long, w.within, w.gone_le);
+      not_exhausted = tt;
+    }
 
 pub returns : goal.returns
 returns c =
-    let start = c in
-    let a = start.args in
+    let a = c.args in
     let l = c.loop-gone in
-    let l2 = c.loop-i in
-    let sent =
-    sending_ends a.n a.q a.b a.place a.entries.now a.store.now
-    l.entries l.store l.gone l.i
-    l.invariant l2.invariant.all_gone in
-    pass_ends a.n a.q a.b a.place a.entries.now a.store.now start.requires.2
-    l2.entries l.store l.gone l2.i
-    (l2.invariant.passes a.entries.now a.store.now start.requires.0 start.requires.1 sent)
-    (omega arith)
+    let sent = sending_ends a.n a.q a.b a.place a.entries.now a.store.now l.entries l.store l.gone l.i l.invariant (omega arith) in
+    rw c.copy_within.ensures.after
+    (pass_ends a.n a.q a.b a.place a.entries.now a.store.now c.requires.0 c.requires.2 l.entries l.store l.gone l.i sent (omega arith))

@@ -1,7 +1,6 @@
 -- `caches::write_out` meets its contract: until the block is whole each of the first i entries was sent or kept, and
 -- the store may hold anything at the place that comes next; then the rest is kept.
 use Prim.Native.Nat.{◌-◌}
-use Rattle.caches.proofs.Writing.{KeepsOn}
 use Rattle.caches.proofs.Writing.{Sending}
 use Rattle.caches.proofs.write_out.Given as goal
 
@@ -10,9 +9,3 @@ invariant-loop-gone l = Sending l.n l.q l.b l.place l.initial.entries l.initial.
 
 abbrev pub decreases-loop-gone : goal.decreases-loop-gone
 decreases-loop-gone l = l.n - l.i
-
-abbrev pub invariant-loop-i : goal.invariant-loop-i
-invariant-loop-i l = KeepsOn l.n l.q l.b l.place l.initial.entries l.store l.gone l.initial.i l.entries l.i
-
-abbrev pub decreases-loop-i : goal.decreases-loop-i
-decreases-loop-i l = l.n - l.i

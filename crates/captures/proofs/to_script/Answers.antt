@@ -1,8 +1,10 @@
 -- `to_script` meets its contract: its answers in the order of judging, and the script where there is none.
-use Rattle.std.proofs.Common.{arith, sym, ◌∙◌, ◌+◌, ◌*◌, length}
+use Rattle.std.proofs.Common.{ℕ, ◌+◌, ◌*◌, Option, Err, length, sym, ap, ◌∙◌}
+use Rattle.std.specs.Option.{ok_or}
+use Rattle.std.proofs.lemmas.Result.{err_from_is_err_and}
 use borrow.Author.Tests.{leb-true, leb-false}
-use Rattle.captures.proofs.Judged.{Passed, header-long, refuses_1, refuses_19, refuses_17}
-use Rattle.captures.proofs.Judged.{refuses_16, script-written}
+use Rattle.captures.specs.declared.Refusal.TheVariants.{FaultyRecord}
+use Rattle.captures.proofs.Judged.{Passed, refuses_18, refuses_16, script-written}
 use Rattle.captures.proofs.to_script.Goals as goal
 use Rattle.captures.proofs.to_script.Goals.{After-measure}
 
@@ -16,32 +18,20 @@ passed c = record {
   measured = c.measure.ensures;
 }
 
-pub returns-then-not-accepted : goal.returns-then-not-accepted
-returns-then-not-accepted c = refuses_1 (sym c.accepted.ensures ∙ c.if-not-accepted.true)
-
-pub returns-then-queues-lt8 : goal.returns-then-queues-lt8
-returns-then-queues-lt8 c = refuses_19 (sym c.accepted.ensures ∙ c.if-not-accepted.false) c.if-queues-lt8.true
-
-pub returns-then-not-header_good : goal.returns-then-not-header_good
-returns-then-not-header_good c =
-    refuses_17 (sym c.accepted.ensures ∙ c.if-not-accepted.false) c.if-queues-lt8.false
-    (sym c.header_good.ensures ∙ c.if-not-header_good.true)
-
-pub slice_bounds-measure-count : goal.slice_bounds-measure-count
-slice_bounds-measure-count c =
-    omega (arith, header-long c.args.capture.now (sym c.header_good.ensures ∙ c.if-not-header_good.false))
-
-pub slice_bounds-measure-start : goal.slice_bounds-measure-start
-slice_bounds-measure-start c =
-    omega (arith, header-long c.args.capture.now (sym c.header_good.ensures ∙ c.if-not-header_good.false))
+pub returns-in_err-bytes : goal.returns-in_err-bytes
+returns-in_err-bytes c =
+    let faulty = c.in_err-bytes.ensures in
+    let out = err_from_is_err_and c.from_residual.result c.from_residual.ensures.1 in
+    let is = out.1 ∙ ap Err out.2 ∙ faulty.value ∙ ap (λ (o : Option ℕ). ok_or o FaultyRecord) faulty.ok_part in
+    rw is (refuses_18 (passed (goal.at.returns-in_err-bytes c).After-measure) faulty.ok_part)
 
 pub returns-then-not-fits : goal.returns-then-not-fits
 returns-then-not-fits c =
-    refuses_16 (passed (goal.at.returns-then-not-fits c).After-measure) c.in-Frames.is
-    (leb-false (5 + 3 * c.in-Frames.bytes) (length c.args.output.now) (sym c.fits.ensures ∙ c.if-not-fits.true))
+    refuses_16 (passed (goal.at.returns-then-not-fits c).After-measure) c.in_ok-bytes.ensures.ok_part
+    (leb-false (5 + 3 * c.in_ok-bytes.bytes) (length c.args.output.now) (sym c.fits.ensures ∙ c.if-not-fits.true))
 
 pub returns : goal.returns
 returns c =
-    script-written (passed (goal.at.returns c).After-measure) c.in-Frames.is
-    (leb-true (5 + 3 * c.in-Frames.bytes) (length c.args.output.now) (sym c.fits.ensures ∙ c.if-not-fits.false))
+    script-written (passed (goal.at.returns c).After-measure) c.in_ok-bytes.ensures.ok_part
+    (leb-true (5 + 3 * c.in_ok-bytes.bytes) (length c.args.output.now) (sym c.fits.ensures ∙ c.if-not-fits.false))
     c.write_script.ensures

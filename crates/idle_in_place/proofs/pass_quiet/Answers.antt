@@ -10,7 +10,7 @@ shift_by-requires c =
     let limits = in_limits a.regs c.requires.0 in (
       count_fits a.regs a.cells.now a.tails.now a.heads.now a.n
           c.leading_empties-empties.ensures c.move_due-due.ensures c.quiet_count-count.ensures
-          c.phase_after-phase.ensures c.if-empties-l.false (omega (arith, limits, c.requires.2)),
+          c.phase_after-phase.ensures c.if-empties-l.true (omega (arith, limits, c.told-cells)),
       omega (arith, limits),
-      c.requires.2,
+      c.told-cells,
     )

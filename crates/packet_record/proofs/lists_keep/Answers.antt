@@ -1,33 +1,16 @@
--- `packet_record::lists_keep` meets its contract: the lists before q keep the rules, and the first that does not keep
--- them decides.
-use mathlib.Core.Path.{◌≡◌, refl, sym, ◌∙◌}
-use native.Mathlib.Omega.{arith}
+-- `packet_record::lists_keep` meets its contract: the chain tests the list of each queue.
+use Rattle.std.proofs.Common.{refl, ◌∙◌, arith, rules, tests}
+use Rattle.std.proofs.lemmas.Iterator.{YieldsList-from_range}
+use Rattle.std.proofs.lemmas.Iterator.Search.{all_from_yields_List}
 use Rattle.packets.specs.Packets.{list_ok}
 use Rattle.packet_layout.specs.Views.{record_in}
-use Rattle.packet_record.proofs.Judging.{one_more, one_not}
+use Rattle.packet_record.proofs.Judging.{queues_below}
 use Rattle.packet_record.proofs.lists_keep.Goals as goal
-
-pub loop-q-init : goal.loop-q-init
-loop-q-init c = (omega arith, refl)
-
-pub loop-q-preserved : goal.loop-q-preserved
-loop-q-preserved c =
-    let a = c.args in
-    let l = c.loop-q in
-    let keeps = c.list_keeps.ensures in (
-      omega arith,
-      one_more (list_ok (record_in a.regs a.lengths.now a.listed.now)) l.q l.invariant.1
-          (sym keeps ∙ c.if-list_keeps.true),
-    )
-
-pub returns-else-list_keeps : goal.returns-else-list_keeps
-returns-else-list_keeps c =
-    let a = c.args in
-    let l = c.loop-q in
-    one_not (list_ok (record_in a.regs a.lengths.now a.listed.now)) l.q a.queues (omega arith)
-    (sym c.list_keeps.ensures ∙ c.if-list_keeps.false)
 
 pub returns : goal.returns
 returns c =
-    let e : c.loop-q.q ≡ c.args.queues = omega arith in
-    sym (rw e at c.loop-q.invariant.1)
+    let a = c.args in
+    let test = list_ok (record_in a.regs a.lengths.now a.listed.now) in
+    all_from_yields_List test _ _ c.all.result c.all.ensures.ran
+    (YieldsList-from_range 0 a.queues a.queues refl (omega arith)) (λ x b q k. search (rules, tests))
+    ∙ queues_below test a.queues

@@ -3,14 +3,11 @@ use Rattle.run_words.specs.Words.{call_of}
 use Rattle.run_in_place.proofs.Turns.{word_fits, called}
 use Rattle.run_in_place.proofs.answer_call.Goals as goal
 
-pub answer_word-word-requires : goal.answer_word-word-requires
-answer_word-word-requires c = word_fits c.advance-a.ensures.0
+pub answer_word-requires : goal.answer_word-requires
+answer_word-requires c = word_fits c.advance-advanced.ensures.0
 
 pub returns : goal.returns
 returns c = (
-  called (call_of c.args.call) c.arrival_in-arrival.result
-      c.request_in-request.result _
-      c.advance-a.ensures.0 c.arrival_in-arrival.ensures c.request_in-request.ensures
-      c.answer_word-word.ensures,
-  c.advance-a.ensures.1,
+  called (call_of c.args.call) _ c.advance-advanced.ensures.0 c.call_in-call.ensures c.answer_word.ensures,
+  c.advance-advanced.ensures.1,
 )

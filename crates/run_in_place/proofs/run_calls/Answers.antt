@@ -13,7 +13,7 @@ pub loop-i-init : goal.loop-i-init
 loop-i-init c =
     let a = c.args in
     let memory = arrays a.tail.now a.head.now a.cells.now a.firsts.now a.stored.now in
-    let read = c.regs_in-before.ensures in (
+    let read = c.regs_in.ensures in (
       lent-ready read c.requires.0,
       run-starts _ _ _ (ap (λ (n : Regs). state_in n memory) read),
       refl,
@@ -23,9 +23,6 @@ loop-i-init c =
 
 pub answer_call-last-requires : goal.answer_call-last-requires
 answer_call-last-requires c = c.loop-i.invariant.0
-
-pub bounds-answers-i : goal.bounds-answers-i
-bounds-answers-i c = omega (arith, c.loop-i-test.true, c.requires.1, c.loop-i.invariant.2)
 
 pub loop-i-preserved : goal.loop-i-preserved
 loop-i-preserved c =

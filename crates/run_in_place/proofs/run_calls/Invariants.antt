@@ -1,6 +1,5 @@
--- Before call i the first i calls have been run as the model's list, and the state is ready for the next; the measure is
--- the number of calls left.
-use Rattle.std.proofs.Common.{◌≡◌, ◌-◌, map, length, get_or}
+-- Before call i the first i calls have been run as the model's list, and the state is ready for the next.
+use Rattle.std.proofs.Common.{◌≡◌, map, length, get_or}
 use Rattle.layout.specs.Counts.{by_queue}
 use Rattle.layout.specs.Views.{arrays, regs_in, state_in}
 use Rattle.slot_in_place.specs.Says.{Ready}
@@ -23,6 +22,3 @@ invariant-loop-i l =
     (arrays l.initial.tail l.initial.head l.initial.cells l.initial.firsts l.initial.stored) l.initial.store
     (get_or (map call_of l.calls) 0 (call_of 0))
     (advanced_in l.last) (arrays l.tail l.head l.cells l.firsts l.stored) (by_queue l.tails l.heads l.owing) l.store
-
-abbrev pub decreases-loop-i : goal.decreases-loop-i
-decreases-loop-i l = length l.calls - l.i

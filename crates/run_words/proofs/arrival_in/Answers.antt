@@ -8,13 +8,13 @@ use Rattle.run_words.specs.Words.{call_queues, call_of, near_byte}
 use Rattle.run_words.proofs.Bits.{byte-none, byte-some}
 use Rattle.run_words.proofs.arrival_in.Goals as goal
 
-pub returns-then-call-eq0 : goal.returns-then-call-eq0
+pub returns-then-word-eq0 : goal.returns-then-word-eq0
 unfolding call_of
-returns-then-call-eq0 c = sym (ap near_byte (byte-none call_queues c.args.call (omega (arith, c.if-call-eq0.true))))
+returns-then-word-eq0 c = sym (ap near_byte (byte-none call_queues c.args.word (omega (arith, c.if-word-eq0.true))))
 
 pub returns : goal.returns
 unfolding call_of
 returns c =
-    let call = c.args.call in
-    ap (λ (q : ℕ). some (byte q (call % 256))) c.near_queue.ensures
-    ∙ sym (ap near_byte (byte-some call_queues call (λ e. c.if-call-eq0.false (omega (arith, e)))))
+    let word = c.args.word in
+    ap (λ (q : ℕ). some (byte q (word % 256))) c.near_queue.ensures
+    ∙ sym (ap near_byte (byte-some call_queues word (λ e. c.if-word-eq0.false (omega (arith, e)))))

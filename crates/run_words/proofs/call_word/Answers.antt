@@ -5,8 +5,8 @@ use Rattle.run_words.proofs.call_word.Goals as goal
 
 pub returns : goal.returns
 returns c =
-    let args = c.args in
+    let call = c.args.call in
     let asked = c.request_bits in
     let arrived = c.arrival_bits in
-    call_is arrived.result asked.result (arrival_in args.arrival) (request_in args.request)
+    call_is arrived.result asked.result (arrival_in call.arrival) (request_in call.request)
     arrived.ensures.0 arrived.ensures.1 asked.ensures.1

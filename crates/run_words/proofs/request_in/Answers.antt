@@ -7,13 +7,13 @@ use Rattle.run_words.specs.Words.{call_queues, call_of, near_queue}
 use Rattle.run_words.proofs.Bits.{queue_none, queue_some}
 use Rattle.run_words.proofs.request_in.Goals as goal
 
-pub returns-then-call-eq0 : goal.returns-then-call-eq0
+pub returns-then-word-eq0 : goal.returns-then-word-eq0
 unfolding call_of
-returns-then-call-eq0 c = sym (ap near_queue (queue_none call_queues (c.args.call / 33554432) (omega (arith, c.if-call-eq0.true))))
+returns-then-word-eq0 c = sym (ap near_queue (queue_none call_queues (c.args.word / 33554432) (omega (arith, c.if-word-eq0.true))))
 
 pub returns : goal.returns
 unfolding call_of
 returns c =
-    let call = c.args.call in
+    let word = c.args.word in
     ap some c.near_queue.ensures
-    ∙ sym (ap near_queue (queue_some call_queues (call / 33554432) (λ e. c.if-call-eq0.false (omega (arith, e)))))
+    ∙ sym (ap near_queue (queue_some call_queues (word / 33554432) (λ e. c.if-word-eq0.false (omega (arith, e)))))

@@ -6,11 +6,11 @@ use Rattle.script_commands.specs.Values.{command_in}
 use Rattle.script_runner.proofs.Left.{first_not_refused, first_sizes}
 use Rattle.script_runner.proofs.first_sizes.Goals as goal
 
-pub returns-in_default : goal.returns-in_default
-returns-in_default c = absurd (first_not_refused c.args.script.now c.requires _ c.in_default.ensures)
+pub unreachable-requires : goal.unreachable-requires
+unreachable-requires c = absurd (first_not_refused c.args.script.now c.requires _ c.in_default.ensures)
 
 pub returns : goal.returns
 returns c =
-    first_sizes c.args.script.now c.requires c.in-Sizes.queues c.in-Sizes.block c.in-Sizes.depth c.in-Taken.length _
-    (ap (λ (z : enum.Command). taken (command_in z) c.in-Taken.length) (sym c.in-Sizes.is) ∙ c.in-Taken.ensures)
+    first_sizes c.args.script.now c.requires c.in-Sizes.queues c.in-Sizes.block c.in-Sizes.depth c.in-Ok.length _
+    (ap (λ (z : enum.Command). taken (command_in z) c.in-Ok.length) (sym c.in-Sizes.is) ∙ c.in-Ok.ensures)
     refl refl refl refl

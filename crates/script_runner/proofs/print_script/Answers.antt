@@ -10,24 +10,22 @@ put_fault-requires c = long_fits _ c.args.output.now c.requires
 pub returns-then-script-gt-MOST_BYTES : goal.returns-then-script-gt-MOST_BYTES
 returns-then-script-gt-MOST_BYTES c = long_prints c.args.script.now c.args.store.now c.args.output.now c.if-script-gt-MOST_BYTES.true c.put_fault.ensures
 
-pub put_fault-requires-then-fault-ne0 : goal.put_fault-requires-then-fault-ne0
-put_fault-requires-then-fault-ne0 c =
-    fault_fits c.args.script.now c.args.store.now c.args.output.now c.if-script-gt-MOST_BYTES.false _
-    c.judge-judged.ensures c.if-fault-ne0.true (bytes-at c.args.script.now (λ i. omega (arith, c.type_inv.script i)))
-    c.requires
+pub put_fault-requires-in-Err : goal.put_fault-requires-in-Err
+put_fault-requires-in-Err c =
+    rw c.into.ensures
+    (fault_fits c.args.script.now c.args.store.now c.args.output.now c.if-script-gt-MOST_BYTES.false _
+    c.in-Err.ensures (bytes-at c.args.script.now (λ i. omega (arith, c.type_inv.script i))) c.requires)
 
-pub returns-then-fault-ne0 : goal.returns-then-fault-ne0
-returns-then-fault-ne0 c =
+pub returns-in-Err : goal.returns-in-Err
+returns-in-Err c =
     fault_prints c.args.script.now c.args.store.now c.args.output.now c.if-script-gt-MOST_BYTES.false _
-    c.judge-judged.ensures c.if-fault-ne0.true c.put_fault-then-fault-ne0.ensures
+    c.in-Err.ensures (rw c.into.ensures at c.put_fault-in-Err.ensures)
 
 pub run_good-requires : goal.run_good-requires
 run_good-requires c =
-    good_fits c.args.script.now c.args.store.now c.args.output.now c.if-script-gt-MOST_BYTES.false _
-    c.judge-judged.ensures c.if-fault-ne0.false (bytes-at c.args.script.now (λ i. omega (arith, c.type_inv.script i)))
-    c.requires
+    good_fits c.args.script.now c.args.store.now c.args.output.now c.if-script-gt-MOST_BYTES.false
+    c.in-Ok.ensures (bytes-at c.args.script.now (λ i. omega (arith, c.type_inv.script i))) c.requires
 
-pub returns : goal.returns
-returns c =
-    good_prints c.args.script.now c.args.store.now c.args.output.now c.if-script-gt-MOST_BYTES.false _
-    c.judge-judged.ensures c.run_good.ensures
+pub returns-in-Ok : goal.returns-in-Ok
+returns-in-Ok c =
+    good_prints c.args.script.now c.args.store.now c.args.output.now c.if-script-gt-MOST_BYTES.false c.run_good.ensures

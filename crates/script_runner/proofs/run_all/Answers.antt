@@ -7,8 +7,8 @@ use Rattle.buffer.specs.Says.{arrays_of}
 use Rattle.script_runner.proofs.Prints.{list_room, ending_fits, list_prints}
 use Rattle.script_runner.proofs.run_all.Goals as goal
 
-pub take-taken-requires : goal.take-taken-requires
-take-taken-requires c =
+pub take-counts-requires : goal.take-counts-requires
+take-counts-requires c =
     let long : Long (arrays_of c.args.state) = search rules in
     countable c.args.state.regs (arrays_of c.args.state) long c.requires.0
 
@@ -18,7 +18,7 @@ run_commands-last-requires c =
       record {
         long = long;
         kept = c.requires.0;
-        tallies = tallied c.args.state.regs (arrays_of c.args.state) c.take-taken.ensures;
+        tallies = tallied c.args.state.regs (arrays_of c.args.state) c.take-counts.ensures;
         store_long = c.requires.1;
       },
       list_room _ _ _ _ c.requires.3,

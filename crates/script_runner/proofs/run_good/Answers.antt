@@ -6,19 +6,18 @@ use Rattle.script_runner.proofs.run_good.Goals as goal
 pub run_all-requires : goal.run_all-requires
 run_all-requires c =
     let a = c.args in
-    let first = c.first_sizes-first.ensures in
-    let made = c.make-made.ensures in
-    let taken = c.if-refused-ne0.false in
+    let first = c.first_sizes-queues.ensures in
+    let made = c.in-Ok.ensures in
     let enough = c.if-store-queues.false in (
-      made_kept _ _ _ _ made taken,
-      store_enough _ _ _ _ made taken a.store.now enough,
+      made_kept _ _ _ _ made,
+      store_enough _ _ _ _ made a.store.now enough,
       first.rest_good,
-      list_fits _ _ _ _ made taken a.store.now enough (judge a.script.now) c.requires.good first.sizes-are _
+      list_fits _ _ _ _ made a.store.now enough (judge a.script.now) c.requires.good first.sizes-are _
           first.calls_are a.output.now c.requires.lines_fit c.requires.slots_fit,
     )
 
-pub returns : goal.returns
-returns c =
-    let first = c.first_sizes-first.ensures in
-    started_runs _ _ _ _ c.make-made.ensures c.if-refused-ne0.false c.args.store.now c.if-store-queues.false
+pub returns-else-store-queues : goal.returns-else-store-queues
+returns-else-store-queues c =
+    let first = c.first_sizes-queues.ensures in
+    started_runs _ _ _ _ c.in-Ok.ensures c.args.store.now c.if-store-queues.false
     (judge c.args.script.now) c.requires.good first.sizes-are _ first.calls_are c.args.output.now c.run_all.ensures

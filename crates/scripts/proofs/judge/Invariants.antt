@@ -5,8 +5,8 @@ use lib.ListN.{length}
 use Rattle.scripts.proofs.Turns.{JudgedTo}
 use Rattle.scripts.proofs.judge.Given as goal
 
-abbrev pub invariant-loop-number : goal.invariant-loop-number
-invariant-loop-number l = JudgedTo l.script l.at l.first
+abbrev pub invariant-loop-refusal : goal.invariant-loop-refusal
+invariant-loop-refusal l = JudgedTo l.script l.at l.first
 
-abbrev pub decreases-loop-number : goal.decreases-loop-number
-decreases-loop-number l = length l.script - l.at
+abbrev pub decreases-loop-refusal : goal.decreases-loop-refusal
+decreases-loop-refusal l = length l.script - l.at

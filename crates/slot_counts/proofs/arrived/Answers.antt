@@ -2,36 +2,31 @@
 use mathlib.Core.Path.{ap}
 use Prim.Native.Nat.{◌<◌}
 use native.Mathlib.Omega.{arith}
-use Rattle.model.specs.State.{Byte, byte}
+use Rattle.model.specs.State.{byte}
 use Rattle.layout.specs.Lengths.{queue_places}
 use Rattle.layout.specs.Calls.{arrival_in}
-use Rattle.slot_counts.proofs.Changes.{fits_more, no_arrival, arrival-adds}
+use Rattle.slot_counts.proofs.Changes.{fits_more, arrival-adds}
 use Rattle.slot_counts.proofs.arrived.Goals as goal
-use Rattle.slot_counts.proofs.arrived.Goals.{In-Comes}
+use Rattle.slot_counts.proofs.arrived.Goals.{In-Some}
 
--- The arriving byte, and that its queue is below 64.
-abbrev comes : (c : In-Comes) → Byte
-comes c = byte c.in-Comes.queue c.in-Comes.value
+-- The queue of the byte that comes is below 64.
+there : (c : In-Some) → c.in-Some.byte.queue < queue_places
+there c =
+    let came = c.in-Some.byte in
+    c.requires.1 (byte came.queue came.value) (ap arrival_in c.in-Some.is)
 
-there : (c : In-Comes) → (comes c).queue < queue_places
-there c = c.requires.2 (comes c) (ap arrival_in c.in-Comes.is)
-
-pub bounds-tails-q : goal.bounds-tails-q
-bounds-tails-q c = there (goal.at.bounds-tails-q c).In-Comes
+pub bounds-tails-byte : goal.bounds-tails-byte
+bounds-tails-byte c = there (goal.at.bounds-tails-byte c).In-Some
 
 pub overflow_add-tails : goal.overflow_add-tails
 overflow_add-tails c =
-    omega (arith, fits_more c.args.tails.now (comes (goal.at.overflow_add-tails c).In-Comes).queue 1 c.requires.1 (omega arith))
+    record { fits = fits_more c.args.tails.now c.in-Some.byte.queue 1 c.requires.0 (omega arith) }
 
-pub bounds-tails-q-in-Comes : goal.bounds-tails-q-in-Comes
-bounds-tails-q-in-Comes c = there (goal.at.bounds-tails-q-in-Comes c).In-Comes
+pub bounds-tails-byte-in-Some : goal.bounds-tails-byte-in-Some
+bounds-tails-byte-in-Some c = there (goal.at.bounds-tails-byte-in-Some c).In-Some
 
-pub returns-in-NoArrival : goal.returns-in-NoArrival
-returns-in-NoArrival c =
-    no_arrival c.args.tails.now c.requires.0 (arrival_in c.args.arrival)
-    (ap arrival_in c.in-NoArrival.is)
-
-pub returns-in-Comes : goal.returns-in-Comes
-returns-in-Comes c =
-    arrival-adds c.args.tails.now c.requires.0 (arrival_in c.args.arrival) (comes (goal.at.returns-in-Comes c).In-Comes)
-    (ap arrival_in c.in-Comes.is) (there (goal.at.returns-in-Comes c).In-Comes)
+pub returns-in-Some : goal.returns-in-Some
+returns-in-Some c =
+    let came = c.in-Some.byte in
+    rw c.in-Some.is
+    (arrival-adds c.args.tails.now (byte came.queue came.value) c.told-tails (there (goal.at.returns-in-Some c).In-Some))

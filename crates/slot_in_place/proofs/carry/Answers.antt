@@ -1,12 +1,28 @@
 -- `carry` meets its contract: each step finds what it asks, and what the steps leave is what the model's accepted slot
 -- leaves.
-use mathlib.Core.Path.{ap, sym, ◌∙◌}
+use mathlib.Core.Path.{◌≡◌, ap, sym, ◌∙◌, subst}
+use mathlib.Core.Bool.{Bool}
+use mathlib.Core.List.{List}
+use mathlib.Core.Option.{Option}
+use Prim.Native.Nat.{ℕ}
+use borrow.Author.Rules.{rules}
+use borrow.Author.Tests.{tests}
+use Rattle.model.specs.Slot.{Call}
+use Rattle.model.specs.State.{State}
+use Rattle.layout.specs.Calls.{chosen_in, refill_in}
+use Rattle.slot_in_place.specs.Says.{Decided}
 use native.Mathlib.Omega.{arith}
 use lib.ListN.{length}
 use Rattle.layout.proofs.Entries.{bytes-length}
 use Rattle.layout.specs.Views.{arrays}
 use Rattle.slot_in_place.proofs.Compose as steps
 use Rattle.slot_in_place.proofs.carry.Goals as goal
+
+-- The queue that is read, as the code takes it out of the plan.
+read_by : {read queue : Option ℕ} → read ≡ queue → {x : State} {store : List ℕ} {call : Call} {owes swaps : Bool}
+    {written : Option ℕ} → Decided x store call owes swaps written queue → Decided x store call owes swaps written read
+read_by e {x} {store} {call} {owes} {swaps} {written} d =
+    subst (λ (q : Option ℕ). Decided x store call owes swaps written q) (sym e) d
 
 pub deliver-gave-requires : goal.deliver-gave-requires
 deliver-gave-requires c =
@@ -31,26 +47,6 @@ ask-asked-requires c =
       steps.joined_in c.args.regs m c.requires.0 c.requires.1 early s1 s2,
       steps.byte-to_hold c.args.regs m c.requires.0 c.requires.1 early s1 s2,
     )
-
-pub overflow_sub-regs : goal.overflow_sub-regs
-overflow_sub-regs c =
-    let m = arrays c.args.tail.now c.args.head.now c.args.cells.now c.args.firsts.now c.args.stored.now in
-    (steps.limits c.args.regs m c.requires.0 c.requires.1).b_low
-
-pub overflow_mul-regs : goal.overflow_mul-regs
-overflow_mul-regs c =
-    let m = arrays c.args.tail.now c.args.head.now c.args.cells.now c.args.firsts.now c.args.stored.now in
-    omega (arith, (steps.limits c.args.regs m c.requires.0 c.requires.1).span_high)
-
-pub overflow_add-regs : goal.overflow_add-regs
-overflow_add-regs c =
-    let m = arrays c.args.tail.now c.args.head.now c.args.cells.now c.args.firsts.now c.args.stored.now in
-    omega (arith, (steps.limits c.args.regs m c.requires.0 c.requires.1).span_high)
-
-pub shift-requires : goal.shift-requires
-shift-requires c =
-    let m = arrays c.args.tail.now c.args.head.now c.args.cells.now c.args.firsts.now c.args.stored.now in
-    (omega arith, steps.cells_fit c.args.regs m c.requires.0 c.requires.1)
 
 pub arrive-filled-requires : goal.arrive-filled-requires
 arrive-filled-requires c =
@@ -79,8 +75,6 @@ write-tail_fill-requires c =
       steps.filled_in c.args.regs m c.requires.0 d early s1 s2 s3 s4 late s5,
       steps.sizes-ok c.args.regs m c.requires.0 d,
       (steps.judged c.args.regs m c.requires.0 d).store_long,
-      c.requires.0.firsts_long,
-      c.requires.0.stored_long,
       steps.block_to_write c.args.regs m c.requires.0 d early s1 s2 s3 s4 late s5,
     )
 
@@ -95,7 +89,8 @@ read-head_fill-requires c =
     let late = c.late_arrival-late.ensures in
     let s5 = c.arrive-filled.ensures in
     let s6 = c.write-tail_fill.ensures in
-    let d = c.requires.1 in (
+    let is : chosen_in c.map-read.result ≡ (refill_in c.args.plan.refill).queue = search (rules, tests) in
+    let d = read_by is c.requires.1 in (
       steps.head_still_in c.args.regs m c.requires.0 d early s1 s2 s3 s4 late s5 s6,
       steps.sizes-ok c.args.regs m c.requires.0 d,
       omega (
@@ -103,15 +98,8 @@ read-head_fill-requires c =
         (steps.judged c.args.regs m c.requires.0 d).store_long,
         steps.same_store c.args.regs m c.requires.0 d early s1 s2 s3 s4 late s5 s6,
       ),
-      c.requires.0.firsts_long,
-      s6.stored_long ∙ c.requires.0.stored_long,
       steps.block_to_read c.args.regs m c.requires.0 d early s1 s2 s3 s4 late s5 s6,
     )
-
-pub next_phase-phase-requires : goal.next_phase-phase-requires
-next_phase-phase-requires c =
-    let m = arrays c.args.tail.now c.args.head.now c.args.cells.now c.args.firsts.now c.args.stored.now in
-    (steps.judged c.args.regs m c.requires.0 c.requires.1).kept.phase_ok
 
 pub returns : goal.returns
 returns c =
@@ -125,13 +113,14 @@ returns c =
     let s5 = c.arrive-filled.ensures in
     let s6 = c.write-tail_fill.ensures in
     let s7 = c.read-head_fill.ensures in
-    let d = c.requires.1 in
+    let is : chosen_in c.map-read.result ≡ (refill_in c.args.plan.refill).queue = search (rules, tests) in
+    let d = read_by is c.requires.1 in
     let head-is = steps.head_2 c.args.regs m c.requires.0 d early s1 s2 s3 s4 late s5 s6 s7 in
     record {
       state_is = steps.state_after_lem c.args.regs m c.requires.0 d early s1 s2 s3 s4 late s5 s6 s7
-          c.next_phase-phase.ensures
-          c.larger-tail_mark.ensures
-          c.larger-head_mark.ensures
+          c.next_phase.ensures
+          c.max.ensures
+          c.max-2.ensures
           (steps.joined_length c.args.regs m c.requires.0 d early s1 s2)
           (sym (bytes-length _ _ s7.fits) ∙ ap length head-is);
       delivery_is = steps.delivered c.args.regs m c.requires.0 d early s1 s2;

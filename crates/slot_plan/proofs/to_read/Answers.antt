@@ -12,41 +12,21 @@ use Rattle.layout.specs.Calls.{chosen_in, request_in, refill_at}
 use Rattle.layout.specs.Views.{sizes_in}
 use Rattle.layout.specs.Figures.{new_cell}
 use Rattle.layout.proofs.Ranges.{in_limits}
-use Rattle.slot_plan.proofs.Reading.{oldest_is, oldest_below, owed_queue_below, no_move_no_read, move_reads}
+use Rattle.slot_plan.proofs.Reading.{oldest_is, oldest_below, owed_queue_below, move_reads}
 use Rattle.slot_plan.proofs.Reading.{stopped_at}
 use Rattle.slot_plan.proofs.to_read.Goals as goal
 use Rattle.slot_plan.proofs.to_read.Goals.{Start}
 
-pub returns-then-regs : goal.returns-then-regs
-returns-then-regs c =
-    let a = c.args in
-    let sizes = sizes_in a.regs in
-    c.refill_at.ensures
-    ∙ no_move_no_read a.regs.phase sizes (counts_in a.heads.now) (cells_in (lookahead sizes) a.cells.now)
-    a.owes (request_in a.request) c.if-regs.true (in_limits a.regs c.requires.0).b_low
-
 -- The cells of accepted sizes lie within the array.
 cells_fit : (c : Start) → lookahead (sizes_in c.args.regs) ≤ length c.args.cells.now
-cells_fit c = omega (arith, (in_limits c.args.regs c.requires.0).span_high, c.requires.3)
+cells_fit c = omega (arith, (in_limits c.args.regs c.requires.0).span_high, c.told-cells)
 
 pub spend-requires : goal.spend-requires
 spend-requires c =
     let cells = c.args.cells.now in
     let l = lookahead (sizes_in c.args.regs) in
-    let below = oldest_below l cells (omega arith) (cells_fit (goal.at.spend-requires c).Start) queue_places c.requires.4 in
-    (c.requires.2, λ q e. (owed_queue_below queue_places (get_or cells 0 0) q below e, c.requires.5 q e))
-
-pub overflow_mul-regs : goal.overflow_mul-regs
-overflow_mul-regs c = omega (arith, (in_limits c.args.regs c.requires.0).span_high)
-
-pub overflow_add-regs-2 : goal.overflow_add-regs-2
-overflow_add-regs-2 c = omega (arith, (in_limits c.args.regs c.requires.0).span_high)
-
-pub scan-stopped-requires : goal.scan-stopped-requires
-scan-stopped-requires c = (omega arith, cells_fit (goal.at.scan-stopped-requires c).Start, c.requires.4)
-
-pub refill_at-requires-2 : goal.refill_at-requires-2
-refill_at-requires-2 c = omega (arith, c.scan-stopped.ensures.2, cells_fit (goal.at.refill_at-requires-2 c).Start, c.requires.3)
+    let below = oldest_below l cells (omega arith) (cells_fit (goal.at.spend-requires c).Start) queue_places c.requires.2 in
+    (c.told-heads, λ q e. (owed_queue_below queue_places (get_or cells 0 0) q below e, c.requires.3 q e))
 
 pub returns : goal.returns
 returns c =
@@ -54,7 +34,7 @@ returns c =
     let sizes = sizes_in a.regs in
     let cells = cells_in (lookahead sizes) a.cells.now in
     let stopped = c.scan-stopped.result in
-    c.refill_at-2.ensures
+    c.refill_at.ensures
     ∙ ap (λ (o : Option ℕ). refill_at o stopped.place) c.or_new.ensures
     ∙ stopped_at (chosen_in stopped.found) stopped.place (counts_in stopped.left)
     (new_cell a.owes (request_in a.request)) c.scan-stopped.ensures.1

@@ -1,5 +1,5 @@
 -- `head_full` meets its contract: its test is that of refusal 10, with one byte less where an Owed cell leaves.
-use Rattle.std.proofs.Common.{arith}
+use Rattle.std.proofs.Common.{arith, not, ap, ◌∙◌}
 use Rattle.layout.specs.Views.{sizes_in}
 use Rattle.layout.proofs.Ranges.{in_limits}
 use Rattle.slot_refusals.proofs.Room.{full-with_owed, full-without}
@@ -8,12 +8,11 @@ use Rattle.slot_refusals.proofs.head_full.Goals as goal
 pub returns-then-cell-ge-OWED : goal.returns-then-cell-ge-OWED
 returns-then-cell-ge-OWED c =
     let a = c.args in
-    rw c.in-Queue.is
-    (full-with_owed (sizes_in a.regs) a.regs.head_fill a.cell c.in-Queue.q
-    (in_limits a.regs c.requires.0).q_low c.if-cell-ge-OWED.true)
+    full-with_owed (sizes_in a.regs) a.regs.head_fill a.cell a.read (c.is_none.ensures ∙ ap not c.if-is_none.false)
+    (in_limits a.regs c.requires.0).q_low c.if-cell-ge-OWED.true
 
 pub returns-else-cell-ge-OWED : goal.returns-else-cell-ge-OWED
 returns-else-cell-ge-OWED c =
     let a = c.args in
-    rw c.in-Queue.is
-    (full-without (sizes_in a.regs) a.regs.head_fill a.cell c.in-Queue.q (omega (arith, c.if-cell-ge-OWED.false)))
+    full-without (sizes_in a.regs) a.regs.head_fill a.cell a.read (c.is_none.ensures ∙ ap not c.if-is_none.false)
+    (omega (arith, c.if-cell-ge-OWED.false))

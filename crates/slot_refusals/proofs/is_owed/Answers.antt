@@ -2,8 +2,8 @@
 use Rattle.slot_refusals.proofs.Judging.{known_owes}
 use Rattle.slot_refusals.proofs.is_owed.Goals as goal
 
-pub returns-else-regs-q : goal.returns-else-regs-q
-returns-else-regs-q c =
+pub returns : goal.returns
+returns c =
     let a = c.args in
-    rw c.in-Asks.is
-    (known_owes a.regs a.heads.now a.owing.now a.stored.now c.in-Asks.queue c.if-regs-q.false)
+    rw c.in-Some.is
+    (known_owes a.regs a.heads.now a.owing.now a.stored.now c.in-Some.queue c.if-regs-q.false)

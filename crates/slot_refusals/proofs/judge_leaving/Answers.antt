@@ -12,21 +12,21 @@ pub bounds-heads-q : goal.bounds-heads-q
 bounds-heads-q c =
     let start = c in
     ltb-true (start.args.cell / 256 % 256) queue_places
-    (rw (cell_below_lem start.args.cell queue_places (omega arith)) at start.requires.1)
+    (rw (cell_below_lem start.args.cell queue_places (omega arith)) at start.requires)
 
-pub returns-then-heads-q-eq0 : goal.returns-then-heads-q-eq0
+pub returns-then-heads-q-eq0-clause-number : goal.returns-then-heads-q-eq0-clause-number
 unfolding counts_in
-returns-then-heads-q-eq0 c =
+returns-then-heads-q-eq0-clause-number c =
     let a = c.args in
     leaving_uncovered (counts_in a.heads.now) a.cell c.if-cell-ge-OWED.true c.if-heads-q-eq0.true
 
-pub returns-then-cell-ge-OWED : goal.returns-then-cell-ge-OWED
+pub returns-else-heads-q-eq0-clause-number : goal.returns-else-heads-q-eq0-clause-number
 unfolding counts_in
-returns-then-cell-ge-OWED c =
+returns-else-heads-q-eq0-clause-number c =
     let a = c.args in
     leaving_covered (counts_in a.heads.now) a.cell c.if-cell-ge-OWED.true c.if-heads-q-eq0.false
 
-pub returns : goal.returns
-returns c =
+pub returns-else-cell-ge-OWED-clause-number : goal.returns-else-cell-ge-OWED-clause-number
+returns-else-cell-ge-OWED-clause-number c =
     let a = c.args in
     leaving_not_owed (counts_in a.heads.now) a.cell (omega (arith, c.if-cell-ge-OWED.false))

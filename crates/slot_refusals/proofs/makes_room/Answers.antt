@@ -2,12 +2,12 @@
 use Rattle.std.proofs.Common.{sym, ◌∙◌}
 use Rattle.layout.specs.Entries.{counts_in}
 use Rattle.layout.specs.Calls.{request_in}
-use Rattle.slot_refusals.proofs.Judging.{held_room}
+use Rattle.slot_refusals.proofs.Judging.{asked_alike, held_room}
 use Rattle.slot_refusals.proofs.makes_room.Goals as goal
 
-pub returns-then-asks_for : goal.returns-then-asks_for
+pub returns-then-not-owes : goal.returns-then-not-owes
 unfolding counts_in
-returns-then-asks_for c =
+returns-then-not-owes c =
     let a = c.args in
     held_room (counts_in a.tails.now) a.owes (request_in a.request) a.queue
-    (sym c.asks_for.ensures ∙ c.if-asks_for.true) c.if-owes.false
+    (asked_alike a.request a.queue ∙ sym c.eq.ensures ∙ c.if-not-owes.true.0) c.if-not-owes.true.1

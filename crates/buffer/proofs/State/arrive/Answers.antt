@@ -14,4 +14,4 @@ pub returns : goal.returns
 returns c =
     let start = c in
     arrived_state start.args.self start.requires _ _ _ _ (search rules) c.arrive-joined.ensures
-    c.larger-self.ensures
+    c.max-self.ensures

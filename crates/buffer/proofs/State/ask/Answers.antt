@@ -2,7 +2,7 @@
 use mathlib.Core.Path.{sym, ◌∙◌}
 use native.Mathlib.Omega.{arith}
 use borrow.Author.Rules.{rules}
-use Rattle.buffer.proofs.OneStep.{limits, tail_in, asked-state}
+use Rattle.buffer.proofs.OneStep.{tail_in, asked-state}
 use Rattle.buffer.proofs.State.ask.Goals as goal
 
 pub ask-asked-requires : goal.ask-asked-requires
@@ -12,18 +12,6 @@ ask-asked-requires c =
       omega (arith, tail_in start.args.self asks.fits (search rules)),
       λ q e f. asks.byte-there q e (sym (asks.owes_is q e) ∙ f),
     )
-
-pub overflow_sub-youngest : goal.overflow_sub-youngest
-overflow_sub-youngest c = let start = c in (limits start.args.self start.requires.fits).b_low
-
-pub overflow_mul-youngest : goal.overflow_mul-youngest
-overflow_mul-youngest c = let start = c in omega (arith, (limits start.args.self start.requires.fits).span_high)
-
-pub offset_bounds-self-youngest : goal.offset_bounds-self-youngest
-offset_bounds-self-youngest c = let start = c in omega (arith, (limits start.args.self start.requires.fits).span_high)
-
-pub bounds-self-youngest : goal.bounds-self-youngest
-bounds-self-youngest c = let start = c in omega (arith, (limits start.args.self start.requires.fits).span_high)
 
 pub returns : goal.returns
 returns c =

@@ -11,10 +11,8 @@ read-fill-requires c =
       omega (arith, head_in s asks.fits (search rules)),
       asks.fits.sizes-ok,
       asks.store_long,
-      search rules,
-      search rules,
       block_to_read s asks (search rules),
     )
 
 pub returns : goal.returns
-returns c = read_state c.args.self c.read-fill.ensures c.larger-self.ensures
+returns c = read_state c.args.self c.read-fill.ensures c.max-self.ensures

@@ -1,82 +1,71 @@
--- `write_frames` meets its contract: before each turn the frames up to the place in the records stand written, and the
--- record at the place is good.
-use Rattle.std.proofs.Common.{arith, refl, ap, length, drop}
+-- `write_frames` meets its contract: the record that what is left begins with is good, and its frame is the next one.
+use Rattle.std.proofs.Common.{arith, refl, sym, ap, ◌∙◌, length}
+use lib.ListN.{length-drop}
+use borrow.Author.Tests.{eqb-true, eqb-false}
 use Rattle.scripts.proofs.Parts.{rest_from}
 use Rattle.capture_frames.proofs.Records.{good_record}
 use Rattle.captures.proofs.Written.{frames_start, there_good, next_within, to_within, frame_room}
 use Rattle.captures.proofs.Written.{place_room, frames_go_on, frames_end_here}
 use Rattle.captures.proofs.writing.write_frames.Goals as goal
 
-pub loop-at-init : goal.loop-at-init
-loop-at-init c = frames_start c.requires
+pub loop-rest-init : goal.loop-rest-init
+loop-rest-init c = frames_start c.requires
 
 pub captured_in-captured-requires : goal.captured_in-captured-requires
 captured_in-captured-requires c =
-    let records = c.args.records.now in
-    let good = there_good c.loop-at.invariant c.requires c.loop-at-test.true refl in
-    omega (arith, ap length (rest_from c.loop-at.at records), (good_record (drop c.loop-at.at records) good).head_there)
+    let some_left = eqb-false (length c.loop-rest.rest.now) 0 (sym c.is_empty.ensures ∙ c.loop-rest-test.true) in
+    omega (arith, (good_record c.loop-rest.rest.now (there_good c.loop-rest.invariant c.requires some_left refl)).head_there)
 
-pub overflow_add-frame : goal.overflow_add-frame
-overflow_add-frame c =
-    let captured = rw rest_from at c.captured_in-captured.ensures in
-    omega (arith, next_within c.loop-at.invariant c.requires c.loop-at-test.true captured)
+pub slice_bounds-split_at-count : goal.slice_bounds-split_at-count
+slice_bounds-split_at-count c =
+    let some_left = eqb-false (length c.loop-rest.rest.now) 0 (sym c.is_empty.ensures ∙ c.loop-rest-test.true) in
+    omega (arith, next_within c.loop-rest.invariant c.requires some_left c.captured_in-captured.ensures)
 
-pub overflow_add-frame-in-loop-at : goal.overflow_add-frame-in-loop-at
-overflow_add-frame-in-loop-at c =
-    let captured = rw rest_from at c.captured_in-captured.ensures in
-    omega (arith, next_within c.loop-at.invariant c.requires c.loop-at-test.true captured)
+pub slice_bounds-split_at-start : goal.slice_bounds-split_at-start
+slice_bounds-split_at-start c =
+    let some_left = eqb-false (length c.loop-rest.rest.now) 0 (sym c.is_empty.ensures ∙ c.loop-rest-test.true) in
+    omega (arith, next_within c.loop-rest.invariant c.requires some_left c.captured_in-captured.ensures)
 
-pub overflow_add-frame-in-loop-at-2 : goal.overflow_add-frame-in-loop-at-2
-overflow_add-frame-in-loop-at-2 c =
-    let captured = rw rest_from at c.captured_in-captured.ensures in
-    omega (arith, next_within c.loop-at.invariant c.requires c.loop-at-test.true captured)
-
-pub slice_bounds-frame-start : goal.slice_bounds-frame-start
-slice_bounds-frame-start c =
-    let captured = rw rest_from at c.captured_in-captured.ensures in
-    omega (arith, next_within c.loop-at.invariant c.requires c.loop-at-test.true captured)
-
-pub slice_bounds-frame-end : goal.slice_bounds-frame-end
-slice_bounds-frame-end c =
-    let captured = rw rest_from at c.captured_in-captured.ensures in
-    omega (arith, next_within c.loop-at.invariant c.requires c.loop-at-test.true captured)
+pub split_at-requires : goal.split_at-requires
+split_at-requires c =
+    let some_left = eqb-false (length c.loop-rest.rest.now) 0 (sym c.is_empty.ensures ∙ c.loop-rest-test.true) in
+    let rest = c.loop-rest.rest.now in
+    omega (
+      arith,
+      next_within c.loop-rest.invariant c.requires some_left c.captured_in-captured.ensures,
+      ap length (rest_from 16 rest),
+      length-drop 16 rest,
+    )
 
 pub slice_bounds-write_frame-count : goal.slice_bounds-write_frame-count
-slice_bounds-write_frame-count c = omega (arith, to_within c.loop-at.invariant c.requires)
+slice_bounds-write_frame-count c = omega (arith, to_within c.loop-rest.invariant c.requires)
 
 pub slice_bounds-write_frame-start : goal.slice_bounds-write_frame-start
-slice_bounds-write_frame-start c = omega (arith, to_within c.loop-at.invariant c.requires)
+slice_bounds-write_frame-start c = omega (arith, to_within c.loop-rest.invariant c.requires)
 
 pub write_frame-requires : goal.write_frame-requires
 write_frame-requires c =
-    let captured = rw rest_from at c.captured_in-captured.ensures in
-    frame_room c.loop-at.invariant c.requires c.loop-at-test.true captured refl
-
-pub overflow_add-at : goal.overflow_add-at
-overflow_add-at c =
-    let captured = rw rest_from at c.captured_in-captured.ensures in
-    omega (arith, next_within c.loop-at.invariant c.requires c.loop-at-test.true captured)
-
-pub overflow_add-at-in-loop-at : goal.overflow_add-at-in-loop-at
-overflow_add-at-in-loop-at c =
-    let captured = rw rest_from at c.captured_in-captured.ensures in
-    omega (arith, next_within c.loop-at.invariant c.requires c.loop-at-test.true captured)
+    let some_left = eqb-false (length c.loop-rest.rest.now) 0 (sym c.is_empty.ensures ∙ c.loop-rest-test.true) in
+    frame_room c.loop-rest.invariant c.requires some_left c.captured_in-captured.ensures
+    (rw rest_from at c.split_at.ensures.front)
 
 pub overflow_mul-to : goal.overflow_mul-to
 overflow_mul-to c =
-    let captured = rw rest_from at c.captured_in-captured.ensures in
-    omega (arith, place_room c.loop-at.invariant c.requires c.loop-at-test.true captured refl)
+    let some_left = eqb-false (length c.loop-rest.rest.now) 0 (sym c.is_empty.ensures ∙ c.loop-rest-test.true) in
+    omega (arith, place_room c.loop-rest.invariant c.requires some_left c.captured_in-captured.ensures refl)
 
 pub overflow_add-to : goal.overflow_add-to
 overflow_add-to c =
-    let captured = rw rest_from at c.captured_in-captured.ensures in
-    omega (arith, place_room c.loop-at.invariant c.requires c.loop-at-test.true captured refl)
+    let some_left = eqb-false (length c.loop-rest.rest.now) 0 (sym c.is_empty.ensures ∙ c.loop-rest-test.true) in
+    omega (arith, place_room c.loop-rest.invariant c.requires some_left c.captured_in-captured.ensures refl)
 
-pub loop-at-preserved : goal.loop-at-preserved
-loop-at-preserved c =
-    let captured = rw rest_from at c.captured_in-captured.ensures in
-    frames_go_on c.loop-at.invariant c.requires c.loop-at-test.true captured refl c.queue_of.ensures
-    c.write_frame.ensures
+pub loop-rest-preserved : goal.loop-rest-preserved
+loop-rest-preserved c =
+    let some_left = eqb-false (length c.loop-rest.rest.now) 0 (sym c.is_empty.ensures ∙ c.loop-rest-test.true) in
+    frames_go_on c.loop-rest.invariant c.requires some_left c.captured_in-captured.ensures
+    (rw rest_from at c.split_at.ensures.front) c.queue_of.ensures c.write_frame.ensures
+    (rw rest_from at c.split_at.ensures.back)
 
 pub returns : goal.returns
-returns c = frames_end_here c.loop-at.invariant c.requires c.loop-at-test.false
+returns c =
+    frames_end_here c.loop-rest.invariant c.requires (eqb-true _ 0 (sym c.is_empty.ensures ∙ c.loop-rest-test.false))

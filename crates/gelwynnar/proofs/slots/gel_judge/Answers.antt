@@ -3,14 +3,12 @@ use Rattle.run_words.specs.Words.{call_of}
 use Rattle.gelwynnar.proofs.Lent.{judged_stopped, judged_going_on}
 use Rattle.gelwynnar.proofs.slots.gel_judge.Goals as goal
 
-pub returns-then-number-ne0 : goal.returns-then-number-ne0
-returns-then-number-ne0 c =
-    judged_stopped _ c.regs_in-now.ensures (call_of c.args.call)
-    c.arrival_in-arrival.result c.request_in-request.result c.plan-plan.ensures c.arrival_in-arrival.ensures
-    c.request_in-request.ensures c.if-number-ne0.true
+pub returns-in-Err : goal.returns-in-Err
+returns-in-Err c =
+    rw c.from-number.ensures
+    (judged_stopped _ c.regs_in.ensures (call_of c.args.call) c.call_in.result c.call_in.ensures c.in-Err.ensures)
 
-pub returns : goal.returns
-returns c =
-    judged_going_on _ c.regs_in-now.ensures (call_of c.args.call)
-    c.arrival_in-arrival.result c.request_in-request.result c.plan-plan.ensures c.arrival_in-arrival.ensures
-    c.request_in-request.ensures c.if-number-ne0.false c.dropped_field-dropped.ensures
+pub returns-in-Ok : goal.returns-in-Ok
+returns-in-Ok c =
+    judged_going_on _ c.regs_in.ensures (call_of c.args.call) c.call_in.result c.call_in.ensures c.in-Ok.ensures
+    c.dropped_field.ensures

@@ -1,2 +1,0 @@
--- The conversion's answer by its two cases.
-pub mod Converted

@@ -1,2 +1,0 @@
--- The proofs of the sizing functions for C.
-pub mod Answers

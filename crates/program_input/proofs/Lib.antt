@@ -1,2 +1,0 @@
--- A count within a buffer.
-pub mod Within

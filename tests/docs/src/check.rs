@@ -27,8 +27,8 @@ const LONGEST_ROW: usize = 220;
 const PROMISES: &str = "docs/PROMISES.md";
 const ARCHITECTURE: &str = "docs/ARCHITECTURE.md";
 const README: &str = "README.md";
-/// It says what things were called and what is gone, so that it names much that is not there.
-const PORT: &str = "docs/PORT.md";
+/// They say what things were called and what is gone, so that they name much that is not there.
+const HISTORIES: [&str; 2] = ["docs/PORT.md", "docs/DESIGN-PASS.md"];
 
 #[derive(Default)]
 pub struct Report {
@@ -52,7 +52,7 @@ pub fn check(tree: &Tree) -> Report {
         report.hold(tree.files.contains_key(document), document, 1, || "is not there".to_string());
     }
     for (path, text) in &tree.files {
-        if path == README || (path.starts_with("docs/") && path.ends_with(".md") && path != PORT) {
+        if path == README || (path.starts_with("docs/") && path.ends_with(".md") && !HISTORIES.contains(&path.as_str())) {
             Checker { tree, document: path, report: &mut report }.document(text);
         }
     }

@@ -9,6 +9,7 @@ const REPOSITORY: [(&str, &str); 11] = [
         "crates/low/specs/Says.antt",
         "-- gone : never\nabbrev pub sum : ℕ → ℕ\nsum n = n + lost : nothing\n\n\
          pub record Said (n : ℕ) : Type 0 where\n  pub number-is : n ≡ 0\n  pub left : ℕ\n\n\
+         pub record Long (n : ℕ) : Type 0\n  where\n    pub behind : ℕ\n\n\
          pub data Kind : Type 0 where\n  round : Kind\n\nmodule _ (n : ℕ) where\n  pub inside : ℕ\n",
     ),
     ("crates/low/proofs/Laws.antt", "pub sum-zero : sum 0 ≡ 0\nsum-zero = refl\n"),
@@ -24,7 +25,7 @@ const REPOSITORY: [(&str, &str); 11] = [
     ("crates/low/must-fail/one_more.edit", "One is added.\nfile: src/lib.rt\n"),
     (
         "README.md",
-        "# A title\n\n`sum` and `Said` .number-is, .left in crates/low/specs/Says.antt; `sum-zero` (low/proofs/{Laws, add_up}),\n\
+        "# A title\n\n`sum`, `Long` .behind and `Said` .number-is, .left in crates/low/specs/Says.antt; `sum-zero` (low/proofs/{Laws, add_up}),\n\
          `low::add_up`, `Pair::swap`, `Shape::Square`, `inside`, `round`. low: one_more, and high_up is above.\n\
          \"crates/gone and an old_name\" are quoted; `let local = ..;` is code, `D t 0` a line, `rt must-fail low` a command.\n\
          Of include/low.h: LOW_MOST, LOW_FIRST, `low_pair`, low_left, `low_add` and low_one.\n\n    \
@@ -43,7 +44,8 @@ const REPOSITORY: [(&str, &str); 11] = [
 ];
 
 /// A document, what stands in it, what is put there, and what the check must then say.
-const WRONG: [(&str, &str, &str, &str); 37] = [
+const WRONG: [(&str, &str, &str, &str); 38] = [
+    ("README.md", "`Long` .behind", "`Said` .behind", "no such field: .behind of Said"),
     ("README.md", "`sum`", "`sums`", "README.md:3: no such name: sums"),
     ("README.md", "`sum`", "`gone`", "README.md:3: no such name: gone"),
     ("README.md", "`sum`", "`lost`", "README.md:3: no such name: lost"),

@@ -174,6 +174,11 @@ fn statements(text: &str) -> Found {
             continue;
         }
         let owner = open.last().and_then(|(_, name)| name.clone());
+        // A head of two lines: what is declared under its `where` is the record's, a step further in.
+        if content == "where" {
+            open.push((indent, owner));
+            continue;
+        }
         let mut words = content.split_whitespace().peekable();
         while words.next_if(|word| ["abbrev", "unfoldable", "pub"].contains(word)).is_some() {}
         match words.peek() {

@@ -1,7 +1,8 @@
 -- The answers of the script functions for C and C++, by the paper's definitions of scripts: commands go in and out as
 -- numbers.
 use Rattle.std.specs.Prelude as rust
-use Rattle.std.specs.Prelude.{◌≡◌, Result, Some, None, Ok, Err, Bool, true, false, not, ◌&&◌, List, [], ◌∷◌, ℕ, ◌%◌, ◌≤◌, eqb, ltb, length, take, get_or}
+use Rattle.std.specs.Prelude.{◌≡◌, Result, Some, None, Ok, Err, Bool, true, false, not, ◌&&◌, List, [], ◌∷◌}
+use Rattle.std.specs.Prelude.{ℕ, ◌%◌, ◌≤◌, eqb, ltb, length, take, get_or}
 use Rattle.std.proofs.Math.Option.{Option, some, none}
 use Rattle.model.specs.Basics.{choose, when, first_refusal}
 use Rattle.script_commands.specs.declared.Command as code

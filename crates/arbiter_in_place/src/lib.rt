@@ -27,11 +27,19 @@ fn note(regs: &mut RegArray, asked: Option<u8>)
 {
     if let Some(queue) = asked {
         let now = layout::regs_in(regs);
+        // Each register is named, so that one more could not be forgotten here.
         layout::put_regs(
             regs,
             Regs {
+                queues: now.queues,
+                block: now.block,
+                depth: now.depth,
+                phase: now.phase,
+                tail_fill: now.tail_fill,
+                head_fill: now.head_fill,
+                tail_mark: now.tail_mark,
+                head_mark: now.head_mark,
                 last_asked: queue as usize,
-                ..now
             },
         );
     }

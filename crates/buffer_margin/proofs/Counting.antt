@@ -4,13 +4,15 @@ use mathlib.Core.Path.{◌≡◌, refl, ap, sym, ◌∙◌}
 use mathlib.Core.Bool.{Bool, true, false, cond, ◌&&◌}
 use mathlib.Core.List.{List, [], ◌∷◌, map}
 use Prim.Native.Nat.{ℕ, zero, suc, ◌+◌, ◌/◌, ◌%◌, ◌≤◌, min}
+use mir.Val.{bool_byte}
 use native.Mathlib.Nat.{min-eq_left, min-eq_right}
 use native.Mathlib.Omega.{arith}
 use lib.Dec.{eqb, leb}
-use lib.ListN.{length, take}
+use lib.ListN.{length, take, length-take}
 use lib.Seq.{take-length}
 use borrow.Author.Tests.{leb-true, leb-false}
 use Rattle.std.proofs.Common.{filter}
+use Rattle.std.proofs.lemmas.List.Sums.{length-filter, count_by-le-length}
 use Rattle.model.specs.Basics.{choose}
 use Rattle.model.specs.State.{count_of, owes, owed_of}
 use Rattle.model.proofs.basics.Tests.{by_test}
@@ -76,3 +78,19 @@ bytes-within n m xs e = rw (← e, take_within n xs)
 pub cells_within : (n m : ℕ) (xs : List ℕ) → length xs ≡ m → cells_in (min n m) xs ≡ cells_in n xs
 unfolding cells_in
 cells_within n m xs e = rw (← e, take_within n xs)
+
+-- A count of the first i, and one more or none, is at most the length and one more.
+bit : (t : Bool) → bool_byte t ≤ 1
+bit true = omega arith
+bit false = omega arith
+
+pub counts_within : (p : ℕ → Bool) (xs : List ℕ) (i : ℕ) (t : Bool)
+    → length (filter p (take i xs)) + bool_byte t ≤ length xs + 1
+counts_within p xs i t =
+    omega (
+      arith,
+      length-filter p (take i xs),
+      count_by-le-length p (take i xs),
+      length-take i xs,
+      bit t,
+    )

@@ -64,7 +64,7 @@ pub extern "C" fn by_value_slots(
     let n = calls.len().min(answers.len());
     for (i, &call) in calls[..n].iter().enumerate() {
         last = last.state.slot(run_words::call_in(call), store);
-        answers[i] = run_words::answer_word(last.reply);
+        answers[i] = run_words::reply_word(last.reply);
     }
     finished(last.state.regs)
 }

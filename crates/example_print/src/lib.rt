@@ -1,7 +1,7 @@
 // What a slot did, in words: for the two programs that the README shows. A line that cannot be written is not told.
 #![tactic(auto)]
 
-use layout::{Byte, Refusal};
+use layout::Byte;
 use std::io::Print;
 
 // A slot, what it does, and the number that it does it with.
@@ -28,7 +28,7 @@ pub fn moves(
     }
 }
 
-// Why a slot, or the sizes, are refused, by its number.
-pub fn refusal(to: &impl Print, slot: u64, refusal: Refusal) {
-    line(to, slot, "is refused with", u8::from(refusal));
+// With what a slot, or the sizes, are refused: a refusal, or any number.
+pub fn refusal(to: &impl Print, slot: u64, with: impl Into<u8>) {
+    line(to, slot, "is refused with", with.into());
 }

@@ -26,7 +26,7 @@ fn tell_arbiter(answer: Arbitrated) -> ArbiterAnswer
     ensures { result ≡ arbiter_told (reply_in answer.reply) (request_in answer.asked) }
 {
     ArbiterAnswer {
-        slot: crate::slots::tell(answer.reply),
+        slot: crate::slots::tell_reply(answer.reply),
         asks: answer.asked.is_some() as u8,
         asked: answer.asked.unwrap_or(0) as u16,
     }

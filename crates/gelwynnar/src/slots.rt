@@ -1,10 +1,10 @@
 // Slots for C callers: the state lies in arrays that the caller lends one by one, and a slot goes in place. `regs` has
 // a state's registers in the order of `layout::Regs`; a call is one word (crates/run_words). Each function that judges
 // leaves the counts by queue right wherever the state keeps the rules, so that `gel_step` may follow.
-ghost use Rattle.std.specs.Prelude.{◌≡◌, List, ℕ, length, Ok};
+ghost use Rattle.std.specs.Prelude.{◌≡◌, List, ℕ, length};
 ghost use Rattle.model.specs.Basics.{choose};
 ghost use Rattle.model.specs.State.{margin};
-ghost use Rattle.layout.specs.Calls.{reply_in};
+ghost use Rattle.layout.specs.Calls.{reply_in, told_in};
 ghost use Rattle.layout.specs.Lent.{given, found, left, counts_given, counts_found, counts_left};
 ghost use Rattle.layout.specs.Lengths.{head_places, cell_places};
 ghost use Rattle.layout.specs.Views.{Long, arrays, regs_in, state_in};
@@ -16,8 +16,8 @@ ghost use Rattle.gelwynnar.specs.Slots.{dropped_told, told};
 ghost use Rattle.gelwynnar.specs.Slots.{OpenSays, SlotLentSays, JudgeLentSays, IdleLentSays};
 
 use layout::{
-    Byte, CELL_PLACES, CellArray, CountArray, EMPTY, HEAD_PLACES, HeadArray, Outcome, QUEUE_PLACES,
-    Refill, RegArray, Reply, RingArray, TAIL_PLACES, TailArray,
+    Byte, CELL_PLACES, CellArray, CountArray, EMPTY, HEAD_PLACES, HeadArray, QUEUE_PLACES,
+    RegArray, Reply, RingArray, TAIL_PLACES, TailArray, Told,
 };
 
 // What a slot answers. To C a refusal is its number, 0 where there is none, and what may be missing is a flag with a
@@ -48,49 +48,46 @@ pub struct Stretched {
 }
 
 // Which halves were dropped.
-fn dropped_field(arrival: bool, request: bool) -> u8
+fn dropped_halves(arrival: bool, request: bool) -> u8
     ensures { result ≡ dropped_told (choose arrival 5 0) (choose request 7 0) }
 {
     (arrival as u8) + 2 * (request as u8)
 }
 
-// What a slot did, as fields. Each is read by itself: a struct that was just written field by field is slow to copy.
-fn tell_outcome(outcome: Outcome) -> Answer
-    ensures { result ≡ told (reply_in (Ok outcome)) }
+// The same by their numbers.
+fn dropped_field(arrival_number: u8, request_number: u8) -> u8
+    ensures { result ≡ dropped_told arrival_number request_number }
 {
-    let (value, queue) = match outcome.delivery {
+    dropped_halves(arrival_number != 0, request_number != 0)
+}
+
+// What a slot tells as fields. Each is read by itself: a struct that was just written field by field is slow to copy.
+pub fn tell(answer: Told) -> Answer
+    ensures { result ≡ told (told_in answer) }
+{
+    let (value, queue) = match answer.delivery {
         Some(Byte { queue, value }) => (value, queue as u16),
         None => (0, 0),
     };
-    let (read, slots_left) = match outcome.read {
-        Some(Refill { queue, slots_left }) => (queue as u16, slots_left as u32),
-        None => (0, 0),
-    };
     Answer {
-        number: 0,
-        dropped: dropped_field(outcome.arrival_dropped, outcome.request_dropped),
-        delivers: outcome.delivery.is_some() as u8,
-        writes: outcome.written.is_some() as u8,
-        reads: outcome.read.is_some() as u8,
+        number: answer.number,
+        dropped: dropped_field(answer.arrival_number, answer.request_number),
+        delivers: answer.delivery.is_some() as u8,
+        writes: answer.written.is_some() as u8,
+        reads: answer.read.is_some() as u8,
         value,
         queue,
-        written: outcome.written.unwrap_or(0) as u16,
-        read,
-        slots_left,
+        written: answer.written.unwrap_or(0) as u16,
+        read: answer.read.unwrap_or(0) as u16,
+        slots_left: answer.slots_left as u32,
     }
 }
 
-// What a slot tells as fields.
-pub fn tell(reply: Reply) -> Answer
+// The same of a reply.
+pub fn tell_reply(reply: Reply) -> Answer
     ensures { result ≡ told (reply_in reply) }
 {
-    match reply {
-        Ok(outcome) => tell_outcome(outcome),
-        Err(refusal) => Answer {
-            number: u8::from(refusal),
-            ..Answer::default()
-        },
-    }
+    tell(Told::from(reply))
 }
 
 // A fresh state of these sizes: 0, or 1 and nothing changed.
@@ -130,7 +127,9 @@ pub extern "C" fn gel_open(
 }
 
 // One slot of a state and counts that this library left, with a store that is long enough: for a caller that knows
-// both. It is a run of one call, so that the slot in place has one caller and stands in that one's loop.
+// both. It is a run of one call, so that the slot in place has one caller and stands in that one's loop. It is inlined
+// where C calls it: by a function between, the answer is written field by field and then read as one.
+#[inline(always)]
 #[unsafe(no_mangle)]
 pub extern "C" fn gel_step(
     regs: &mut RegArray,
@@ -169,7 +168,7 @@ pub extern "C" fn gel_step(
         &mut answers,
         store,
     );
-    tell(reply)
+    tell_reply(reply)
 }
 
 // One slot, of any state and any store; the counts need not be those of the state, and are then.
@@ -213,7 +212,7 @@ pub extern "C" fn gel_slot(
         Ok(()) => gel_step(
             regs, tail, head, cells, firsts, stored, tails, heads, owing, call, store,
         ),
-        Err(refusal) => tell(Err(refusal)),
+        Err(refusal) => tell_reply(Err(refusal)),
     }
 }
 
@@ -285,7 +284,7 @@ pub extern "C" fn gel_idle(
     layout::put_regs(regs, stretch.regs);
     Stretched {
         passed: stretch.passed,
-        last: tell(stretch.reply),
+        last: tell_reply(stretch.reply),
     }
 }
 
@@ -327,7 +326,7 @@ pub extern "C" fn gel_judge<'a>(
     match planned {
         Ok(plan) => Judgement {
             number: 0,
-            dropped: dropped_field(plan.arrival_dropped, plan.request_dropped),
+            dropped: dropped_halves(plan.arrival_dropped, plan.request_dropped),
         },
         Err(refusal) => {
             let number = u8::from(refusal);

@@ -78,9 +78,17 @@ pub fn pass(
         (counts_left tails heads owing) store.new }
 {
     let quiet = pass_quiet(cells, tails, heads, regs, n);
+    // Each register is named, so that one more could not be forgotten here.
     let turned = Regs {
+        queues: regs.queues,
+        block: regs.block,
+        depth: regs.depth,
         phase: quiet.phase,
-        ..regs
+        tail_fill: regs.tail_fill,
+        head_fill: regs.head_fill,
+        tail_mark: regs.tail_mark,
+        head_mark: regs.head_mark,
+        last_asked: regs.last_asked,
     };
     if quiet.count == n {
         return Passed {

@@ -11,6 +11,7 @@ use Rattle.layout.specs.declared.Byte.{Byte}
 use Rattle.layout.specs.declared.Call.{Call}
 use Rattle.layout.specs.declared.Refill.{Refill}
 use Rattle.layout.specs.declared.Outcome.{Outcome}
+use Rattle.layout.specs.declared.Told.{Told}
 use Rattle.layout.specs.declared.Refusal.{Refusal}
 use Rattle.layout.specs.declared.Refusal.TheVariants as because
 
@@ -79,3 +80,15 @@ reply_in (Ok o) = record {
   slots_left = (refill_in o.read).slots_left;
 }
 reply_in (Err refusal) = number_alone (number_of refusal)
+
+-- The same of what is told in numbers, whatever they are.
+abbrev pub told_in : Told → slot.Reply
+told_in t = record {
+  number = t.number;
+  arrival_number = t.arrival_number;
+  request_number = t.request_number;
+  delivered = delivery_in t.delivery;
+  written = chosen_in t.written;
+  read = chosen_in t.read;
+  slots_left = t.slots_left;
+}

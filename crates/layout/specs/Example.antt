@@ -12,7 +12,9 @@ use Rattle.layout.specs.declared.Byte.{Byte}
 use Rattle.layout.specs.declared.Outcome.{Outcome}
 use Rattle.layout.specs.declared.Refusal.TheVariants.{TailFull}
 use Rattle.layout.specs.declared.Regs.{Regs}
-use Rattle.layout.specs.Calls.{arrival_in, request_in, delivery_in, chosen_in, refill_in, call_in, request_number_in, reply_in}
+use Rattle.layout.specs.declared.Told.{Told}
+use Rattle.layout.specs.Calls.{arrival_in, request_in, delivery_in, chosen_in, refill_in, call_in, request_number_in}
+use Rattle.layout.specs.Calls.{reply_in, told_in}
 use Rattle.layout.specs.Counts.{ByQueue, CountsAre, Tallies}
 use Rattle.layout.specs.Views.{Arrays, Long, state_in}
 use Rattle.layout.specs.Lent.{Lent, found, left, counts_found, counts_left}
@@ -65,6 +67,18 @@ example_outcome = record {
   read = Some (record { queue = 9; slots_left = 10 });
 }
 
+-- What no slot tells, each number another one.
+abbrev pub example_told : Told
+example_told = record {
+  number = 1;
+  arrival_number = 2;
+  request_number = 3;
+  delivery = Some (code_byte 4 5);
+  written = Some 6;
+  read = Some 7;
+  slots_left = 8;
+}
+
 -- The counts by queue beside that state, in arrays of 64.
 abbrev pub example_counts : ByQueue
 example_counts = record {
@@ -113,6 +127,24 @@ pub record ExampleReads : Type 0 where
     written = some 8;
     read = some 9;
     slots_left = 10;
+  }
+  pub both_dropped_are : reply_in (Ok (record example_outcome { request_dropped = true })) ≡ record {
+    number = 0;
+    arrival_number = 5;
+    request_number = 7;
+    delivered = some (byte 4 6);
+    written = some 8;
+    read = some 9;
+    slots_left = 10;
+  }
+  pub told_is : told_in example_told ≡ record {
+    number = 1;
+    arrival_number = 2;
+    request_number = 3;
+    delivered = some (byte 4 5);
+    written = some 6;
+    read = some 7;
+    slots_left = 8;
   }
   pub request_dropped_is : request_number_in (record example_outcome { request_dropped = true }) ≡ 7
   pub reply_refused : reply_in (Err TailFull) ≡ number_alone 9

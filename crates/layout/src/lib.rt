@@ -3,7 +3,8 @@
 #![tactic(auto)]
 
 ghost use Rattle.std.specs.Prelude.{◌≡◌, ◌<◌};
-ghost use Rattle.layout.specs.Calls.{chosen_in, refill_at, refill_in, number_of};
+ghost use Rattle.model.specs.Slot.{number_alone};
+ghost use Rattle.layout.specs.Calls.{chosen_in, refill_at, refill_in, number_of, reply_in, told_in};
 ghost use Rattle.layout.specs.Example.{ExampleReads};
 ghost use Rattle.layout.specs.Views.{regs_in};
 
@@ -88,6 +89,54 @@ impl From<Refusal> for u8 {
 
 /// What a slot tells: what it did, or why it was refused.
 pub type Reply = Result<Outcome, Refusal>;
+
+/// What a slot tells in numbers, as C and the words of a run have it: the number that stopped it or 0, those of its
+/// halves, 5 and 7 or 0, the delivery, the queues written and read, and at a read in how many slots the cell leaves that
+/// it was for, else 0. Each may hold any number.
+#[derive(Clone, Copy, PartialEq, Eq, Debug)]
+pub struct Told {
+    pub number: u8,
+    pub arrival_number: u8,
+    pub request_number: u8,
+    pub delivery: Option<Byte>,
+    pub written: Option<u8>,
+    pub read: Option<u8>,
+    pub slots_left: u16,
+}
+
+// A number, and nothing else to tell.
+pub fn number_alone(number: u8) -> Told
+    ensures { told_in result ≡ number_alone number }
+{
+    Told {
+        number,
+        arrival_number: 0,
+        request_number: 0,
+        delivery: None,
+        written: None,
+        read: None,
+        slots_left: 0,
+    }
+}
+
+impl From<Reply> for Told {
+    ghost from_gives = { λ reply told. told_in told ≡ reply_in reply };
+
+    fn from(reply: Reply) -> Told {
+        match reply {
+            Ok(outcome) => Told {
+                number: 0,
+                arrival_number: if outcome.arrival_dropped { 5 } else { 0 },
+                request_number: if outcome.request_dropped { 7 } else { 0 },
+                delivery: outcome.delivery,
+                written: outcome.written,
+                read: outcome.read.map(|block| block.queue),
+                slots_left: outcome.read.map_or(0, |block| block.slots_left),
+            },
+            Err(refusal) => number_alone(u8::from(refusal)),
+        }
+    }
+}
 
 // A cell is kind × 65,536 + queue × 256 + value: below `HELD` it is empty, from `OWED` on it is Owed.
 pub const EMPTY: u32 = 0;

@@ -1,10 +1,11 @@
 -- The parts in which the code judges a record are the model's rules.
 use mathlib.Core.Path.{◌≡◌, refl, ap, sym, ◌∙◌}
-use mathlib.Core.Bool.{Bool, false, ◌&&◌, and_comm}
+use mathlib.Core.Bool.{Bool, true, false, ◌&&◌, and_comm}
 use mathlib.Core.List.{List, [], ◌∷◌}
 use Prim.Native.Nat.{ℕ, zero, suc, ◌+◌, ◌*◌, ◌≤◌, ◌<◌}
 use native.Mathlib.Numerals.{add-one}
 use native.Mathlib.Omega.{arith}
+use lib.Dec.{eqb}
 use lib.ListN.{length, take, drop, get_or, length-drop}
 use lib.Seq.{take-length}
 use borrow.Author.Tests.{le-leb, lt-leb}
@@ -12,8 +13,9 @@ use Rattle.std.specs.List.{list_all, range_with_len}
 use Rattle.std.proofs.lemmas.List.{get_or-drop}
 use Rattle.std.proofs.lemmas.List.Folds.{list_all_more}
 use Rattle.std.proofs.lemmas.List.FromFn.{length-range_with_len, get_or-range_with_len}
-use Rattle.model.specs.Basics.{all_of, all_below, tabulate}
-use Rattle.packets.specs.Packets.{most_listed, length_ok, coming_to, list_ok}
+use Rattle.std.proofs.Math.Option.{Option, some, none}
+use Rattle.model.specs.Basics.{choose, all_of, all_below, tabulate}
+use Rattle.packets.specs.Packets.{Coming, most_listed, length_ok, coming_to, list_ok}
 use Rattle.packet_layout.specs.declared.PacketRegs.{PacketRegs}
 use Rattle.packet_layout.specs.Views.{list_in, incoming_of, record_in}
 use Rattle.packet_record.proofs.Lists.{length-tabulate, tabulate-alike, list_length}
@@ -54,6 +56,18 @@ queues_below test n =
     ap (list_all test)
     (sym (ap (λ (k : ℕ). take k (range_with_len 0 n)) (sym (length-range_with_len 0 n)) ∙ take-length (range_with_len 0 n)))
     ∙ tests_below test n n (omega arith)
+
+-- At most one packet comes in to a queue.
+one_or_none : (t : Bool) → choose t 1 0 ≤ 1
+one_or_none true = omega arith
+one_or_none false = omega arith
+
+few : (q : ℕ) (coming : Option Coming) → coming_to q coming ≤ 1
+few q none = omega arith
+few q (some c) = one_or_none (eqb c.queue q)
+
+pub coming-few : (regs : PacketRegs) (q : ℕ) → coming_to q (incoming_of regs) ≤ 1
+coming-few regs q = few q (incoming_of regs)
 
 -- The list of one queue.
 module _ (regs : PacketRegs) (lengths listed : List ℕ) (q : ℕ) where

@@ -57,7 +57,7 @@ pub fn run(
         store.len(),
     );
     if let Err(refusal) = judged {
-        answers[..n].fill(run_words::answer_word(Err(refusal)));
+        answers[..n].fill(run_words::reply_word(Err(refusal)));
         return Err(refusal);
     }
     // What the last slot told stands in its answer.

@@ -51,7 +51,7 @@ pub fn answer_call(
     Called {
         regs: advanced.regs,
         reply: advanced.reply,
-        word: run_words::answer_word(advanced.reply),
+        word: run_words::reply_word(advanced.reply),
     }
 }
 

@@ -3,13 +3,13 @@
 #![tactic(auto)]
 
 ghost use Rattle.std.specs.Prelude.{◌≡◌, ◌<◌};
-ghost use Rattle.layout.specs.Calls.{chosen_in, arrival_in, request_in, delivery_in, refill_in, call_in, reply_in};
+ghost use Rattle.layout.specs.Calls.{chosen_in, arrival_in, request_in, delivery_in, call_in, reply_in, told_in};
 ghost use Rattle.run_words.specs.Words.{call_queues, answer_queues, byte_word, queue_word, byte_in, queue_in, call_of};
 ghost use Rattle.run_words.specs.Words.{answer_word, number_of, arrival_number_of, request_number_of};
 ghost use Rattle.run_words.specs.Words.{answer_slots, slots_left_of, delivered_of, written_of, read_of};
 ghost use Rattle.run_words.specs.Words.{nearest, near_byte, near_queue, near_call};
 
-use layout::{Byte, Call, Reply};
+use layout::{Byte, Call, Reply, Told};
 
 // A call: its queues have 16 bits, bit 24 tells whether a byte arrives, from bit 25 on lies the queue requested, and
 // bit 41 tells whether there is one.
@@ -122,25 +122,25 @@ fn chosen_bits(chosen: Option<u8>) -> u64
 
 // What a slot tells as one number: the number that stopped it or 0, which halves it dropped, the slots left at a read,
 // the queue read, the queue written and the byte delivered.
-pub fn answer_word(reply: Reply) -> u64
+pub fn answer_word(told: Told) -> u64
+    requires { told.slots_left < answer_slots }
+    ensures { result ≡ answer_word (told_in told) }
+{
+    u64::from(told.number) * NUMBER
+        + u64::from(told.request_number != 0) * REQUEST_DROPPED
+        + u64::from(told.arrival_number != 0) * ARRIVAL_DROPPED
+        + u64::from(told.slots_left) * SLOTS_LEFT
+        + chosen_bits(told.read) * READ
+        + chosen_bits(told.written) * WRITTEN
+        + delivery_bits(told.delivery)
+}
+
+// The same of a reply.
+pub fn reply_word(reply: Reply) -> u64
     requires { (reply_in reply).slots_left < answer_slots }
     ensures { result ≡ answer_word (reply_in reply) }
 {
-    match reply {
-        Ok(outcome) => {
-            let slots_left = outcome
-                .read
-                .map_or(0, |refill| u64::from(refill.slots_left));
-            let read = outcome.read.map(|refill| refill.queue);
-            u64::from(outcome.request_dropped) * REQUEST_DROPPED
-                + u64::from(outcome.arrival_dropped) * ARRIVAL_DROPPED
-                + slots_left * SLOTS_LEFT
-                + chosen_bits(read) * READ
-                + chosen_bits(outcome.written) * WRITTEN
-                + delivery_bits(outcome.delivery)
-        }
-        Err(refusal) => u64::from(u8::from(refusal)) * NUMBER,
-    }
+    answer_word(Told::from(reply))
 }
 
 // The number that stopped the slot of an answer, or 0. A word may hold any number, also one that is no refusal's, and C

@@ -16,11 +16,14 @@ use layout::{
 };
 use slot_plan::Plan;
 
-// 2, where the rules are kept: whether a store of so many bytes is too short for the sizes.
-fn judge_store(regs: Regs, bytes: usize) -> Result<(), Refusal>
-    requires { accepts paper_limits (sizes_in regs) ≡ true }
-    ensures { number_in result ≡ state_number true (sizes_in regs) bytes }
+// 3 and 2, in this order, where it is known whether the rules are kept: of every slot, whether it is run or planned.
+pub fn state_number(kept: bool, regs: Regs, bytes: usize) -> Result<(), Refusal>
+    requires { kept ≡ true → accepts paper_limits (sizes_in regs) ≡ true }
+    ensures { number_in result ≡ state_number kept (sizes_in regs) bytes }
 {
+    if !kept {
+        return Err(Refusal::BrokenRules);
+    }
     if bytes < regs.queues * regs.depth * regs.block {
         return Err(Refusal::ShortStore);
     }
@@ -50,17 +53,18 @@ pub fn judge_state(
         (counts_found tails heads owing) (counts_left tails heads owing) }
 {
     let judged = slot_rules::judge_rules(tail, head, cells, firsts, stored, regs);
-    let counts = judged.ok_or(Refusal::BrokenRules)?;
-    // Taken apart first: an array field cannot be stored straight.
-    let QueueCounts {
-        tails: by_tail,
-        heads: by_head,
-        owing: by_owed,
-    } = counts;
-    *tails = by_tail;
-    *heads = by_head;
-    *owing = by_owed;
-    judge_store(regs, bytes)
+    if let Some(counts) = judged {
+        // Taken apart first: an array field cannot be stored straight.
+        let QueueCounts {
+            tails: by_tail,
+            heads: by_head,
+            owing: by_owed,
+        } = counts;
+        *tails = by_tail;
+        *heads = by_head;
+        *owing = by_owed;
+    }
+    state_number(judged.is_some(), regs, bytes)
 }
 
 // What a slot will do, of any state and any store of so many bytes: 3 and 2, and then as the slot in place decides it.
@@ -79,11 +83,11 @@ pub fn plan(
         (call_in call) result }
 {
     let judged = slot_rules::judge_rules(tail, head, cells, firsts, stored, regs);
+    state_number(judged.is_some(), regs, bytes)?;
     let QueueCounts {
         tails,
         heads,
         owing,
-    } = judged.ok_or(Refusal::BrokenRules)?;
-    judge_store(regs, bytes)?;
+    } = judged.unwrap();
     slot_plan::decide(cells, &tails, &heads, &owing, stored, regs, call)
 }

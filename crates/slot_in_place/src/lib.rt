@@ -54,15 +54,19 @@ pub fn carry(
     let tail_fill = slot_steps::write(tail, firsts, stored, regs, filled, plan.written, store);
     let read = plan.refill.map(|refill| refill.queue);
     let head_fill = slot_steps::read(head, firsts, stored, regs, gave.fill, read, store);
-    // 5. The phase. The marks rise with the fills; a late arrival fills the place that the request has left.
+    // 5. The phase. The marks rise with the fills; a late arrival fills the place that the request has left. Each register
+    // is named, so that one more could not be forgotten here.
     Carried {
         regs: Regs {
+            queues: regs.queues,
+            block: regs.block,
+            depth: regs.depth,
             phase: slot_steps::next_phase(regs.phase, regs.block),
             tail_fill,
             head_fill,
             tail_mark: regs.tail_mark.max(joined),
             head_mark: regs.head_mark.max(head_fill),
-            ..regs
+            last_asked: regs.last_asked,
         },
         delivery: gave.delivery,
     }

@@ -14,8 +14,8 @@ use Rattle.by_value.proofs.by_value_slots.Goals as goal
 pub loop-i-init : goal.loop-i-init
 loop-i-init c = (refl, refl, run-starts _ _ _ refl)
 
-pub answer_word-requires : goal.answer_word-requires
-answer_word-requires c = word_fits c.slot-last.ensures
+pub reply_word-requires : goal.reply_word-requires
+reply_word-requires c = word_fits c.slot-last.ensures
 
 pub loop-i-preserved : goal.loop-i-preserved
 loop-i-preserved c =
@@ -34,7 +34,7 @@ loop-i-preserved c =
       run-turn loop.invariant.2 (call_of 0) is_call
           (omega (arith, taken, c.loop-i-test.true, c.min-n.ensures, length-map calls call_of))
           (omega (arith, taken, c.loop-i-test.true, c.min-n.ensures)) is-slot
-          (c.answer_word.ensures ∙ ap (λ (b : Answer). answer_word b.reply) is-slot),
+          (c.reply_word.ensures ∙ ap (λ (b : Answer). answer_word b.reply) is-slot),
     )
 
 pub returns : goal.returns

@@ -17,10 +17,10 @@ returns-in-Err c =
     let says = judged_lent c.regs_in-before.ensures memory a.store.now c.in-Err.ensures in
     let refused = refusal_is_some c.in-Err.refusal in
     let n = c.min-n.result in
-    let filled : c.fill.new.self ++ drop n a.answers.now ≡ replicate n c.answer_word.result ++ drop n a.answers.now =
+    let filled : c.fill.new.self ++ drop n a.answers.now ≡ replicate n c.reply_word.result ++ drop n a.answers.now =
     search (rules, tests) in (
       ran_refused x a.calls.now a.answers.now a.store.now c.min-n.ensures
-          (judged_state x (length a.store.now) says.0) refused c.answer_word.ensures filled,
+          (judged_state x (length a.store.now) says.0) refused c.reply_word.ensures filled,
       says.0,
       leaves_refused regs memory a.store.now says.0 says.1 refused,
     )

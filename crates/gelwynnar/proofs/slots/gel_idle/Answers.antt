@@ -5,4 +5,4 @@ use Rattle.gelwynnar.proofs.slots.gel_idle.Goals as goal
 pub returns : goal.returns
 returns c =
     idled _ _ c.regs_in-before.ensures c.idle-stretch.ensures c.put_regs.ensures
-    c.tell.ensures
+    c.tell_reply.ensures

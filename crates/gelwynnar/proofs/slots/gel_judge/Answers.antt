@@ -11,4 +11,4 @@ returns-in-Err c =
 pub returns-in-Ok : goal.returns-in-Ok
 returns-in-Ok c =
     judged_going_on _ c.regs_in.ensures (call_of c.args.call) c.call_in.result c.call_in.ensures c.in-Ok.ensures
-    c.dropped_field.ensures
+    c.dropped_halves.ensures

@@ -6,7 +6,7 @@ use Rattle.gelwynnar.proofs.slots.gel_slot.Goals as goal
 
 pub returns-in-Err : goal.returns-in-Err
 returns-in-Err c =
-    slot-refused _ c.args.store.now c.regs_in-before.ensures c.in-Err.ensures _ refl c.tell.ensures
+    slot-refused _ c.args.store.now c.regs_in-before.ensures c.in-Err.ensures _ refl c.tell_reply.ensures
 
 pub gel_step-requires : goal.gel_step-requires
 gel_step-requires c = step_ready _ c.args.store.now c.regs_in-before.ensures c.in-Ok.ensures refl c.requires

@@ -6,4 +6,4 @@ use Rattle.gelwynnar.proofs.slots.gel_step.Goals as goal
 
 pub returns : goal.returns
 returns c =
-    stepped _ _ _ c.run_calls-reply.result (c.run_calls-reply.ensures.2 (call_of c.args.call) refl) c.tell.ensures
+    stepped _ _ _ c.run_calls-reply.result (c.run_calls-reply.ensures.2 (call_of c.args.call) refl) c.tell_reply.ensures

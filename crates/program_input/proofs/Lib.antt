@@ -1,0 +1,2 @@
+-- A count within a buffer.
+pub mod Within
